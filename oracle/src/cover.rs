@@ -1,0 +1,218 @@
+//! The coverage table: how many of some generated cases met each branch of the rules.
+
+use std::collections::{BTreeMap, BTreeSet};
+
+use crate::branch::Branch;
+use crate::generate::case_of;
+use crate::items::{read_items, walk, Item, Met, KNOWN_TYPES};
+use crate::listing::listing;
+use crate::protocol::{Case, Operation};
+use crate::reclaim::reclaim;
+use crate::recover::recover;
+use crate::sector::{
+    blank, entry_state, header_crc_right, number, record, state, state_of_word, version, version_known,
+    EntryState, Record, State, ENTRIES, SECTOR_BYTES,
+};
+use crate::steps::{Outcome, Stage};
+
+type Branches = BTreeSet<Branch>;
+
+/// Every branch that a case meets.
+pub fn branches_of(case: &Case) -> Branches {
+    let mut met = Branches::new();
+    for sector in case.image.chunks_exact(SECTOR_BYTES) {
+        met.extend(branches_of_sector(sector));
+    }
+    met.extend(match case.operation {
+        Operation::Recover => branches_of_recovery(case),
+        Operation::Reclaim => branches_of_reclaim(case),
+        Operation::ItemReader => branches_of_reader(case),
+        Operation::Listing => branches_of_listing(case),
+    });
+    met
+}
+
+fn branches_of_sector(sector: &[u8]) -> Branches {
+    let mut met = Branches::new();
+    met.insert(match state(sector) {
+        State::Blank => Branch::StateBlank,
+        State::Corrupt => Branch::StateCorrupt,
+        State::Active => Branch::StateActive,
+        State::Full => Branch::StateFull,
+        State::Freeing => Branch::StateFreeing,
+    });
+    match state(sector) {
+        State::Blank => {}
+        State::Corrupt => met.extend(branch_of_corrupt(sector)),
+        _ => met.extend(branches_of_page(sector)),
+    }
+    met
+}
+
+/// What alone makes the sector Corrupt, where one thing alone does.
+fn branch_of_corrupt(sector: &[u8]) -> Option<Branch> {
+    let mut without_pairs = sector.to_vec();
+    without_pairs[63] |= 0xF0;
+    if blank(&without_pairs) {
+        return Some(Branch::CorruptByPairsPast125);
+    }
+    let word_known = state_of_word(number(sector, 0)).is_some();
+    match (word_known, version_known(sector), header_crc_right(sector)) {
+        (false, true, true) => Some(Branch::CorruptByWordAlone),
+        (true, false, true) => Some(Branch::CorruptByVersionAlone),
+        (true, true, false) => Some(Branch::CorruptByCrcAlone),
+        _ => None,
+    }
+}
+
+fn branches_of_page(sector: &[u8]) -> Branches {
+    let Record { written, erased, empty, .. } = record(sector);
+    let all = ENTRIES as u32;
+    let mut met = BTreeSet::from([match version(sector) {
+        0xFE => Branch::VersionFe,
+        _ => Branch::VersionFf,
+    }]);
+    let conditions = [
+        (sector[63] & 0xF0 != 0xF0, Branch::PagePairsPast125),
+        (written == all, Branch::PageAllWritten),
+        (erased == all, Branch::PageAllErased),
+        (empty == all, Branch::PageAllEmpty),
+    ];
+    met.extend(held(&conditions));
+    for here in walk(sector) {
+        match here {
+            Met::NotWritten(EntryState::Erased) => met.extend([Branch::WalkErased]),
+            Met::NotWritten(EntryState::Illegal) => met.extend([Branch::WalkIllegal]),
+            Met::NotWritten(_) => met.extend([Branch::WalkEmpty]),
+            Met::WrongCrc => met.extend([Branch::WalkWrongCrc]),
+            Met::UnknownType => met.extend([Branch::WalkUnknownType]),
+            Met::SpanZero => met.extend([Branch::WalkSpanZero]),
+            Met::SpanTooLong => met.extend([Branch::WalkSpanTooLong]),
+            Met::Item(item) => met.extend(branches_of_item(sector, &item)),
+        }
+    }
+    met
+}
+
+fn held(conditions: &[(bool, Branch)]) -> Branches {
+    conditions.iter().filter(|(holds, _)| *holds).map(|(_, branch)| *branch).collect()
+}
+
+/// In the order of KNOWN_TYPES.
+const TYPE_BRANCHES: [Branch; 12] = [
+    Branch::Type01, Branch::Type02, Branch::Type04, Branch::Type08, Branch::Type11, Branch::Type12,
+    Branch::Type14, Branch::Type18, Branch::Type21, Branch::Type41, Branch::Type42, Branch::Type48,
+];
+
+fn branches_of_item(sector: &[u8], item: &Item) -> Branches {
+    let end = item.entry + item.span();
+    let unmarked = (item.entry..end).any(|entry| entry_state(sector, entry) != EntryState::Written);
+    let conditions = [
+        (end == ENTRIES, Branch::WalkSpanToLastEntry),
+        (item.span() == ENTRIES, Branch::WalkSpan126),
+        (unmarked, Branch::WalkPayloadNotWritten),
+        (item.namespace() == 0, Branch::WalkNamespace0),
+    ];
+    let mut met = held(&conditions);
+    let types = KNOWN_TYPES.iter().zip(TYPE_BRANCHES);
+    met.extend(types.filter(|(kind, _)| **kind == item.kind()).map(|(_, branch)| branch));
+    met
+}
+
+fn branches_of_recovery(case: &Case) -> Branches {
+    let outcome = recover(&case.image, case.allowance, &mut vec![None; case.records as usize]);
+    let sectors = case.image.len() / SECTOR_BYTES;
+    let made = &outcome.list[..outcome.steps];
+    let finish_begun = made.iter().any(|tagged| matches!(tagged.stage, Stage::Finish { .. }));
+    let stopped = outcome.stopped_in();
+    let in_order = stopped == Some(Stage::ActiveOrder);
+    let ended = outcome.result == 0;
+    let conditions = [
+        (ended, Branch::RecoveryResult0),
+        (outcome.result == 1, Branch::RecoveryResult1),
+        (outcome.result == 2, Branch::RecoveryResult2),
+        (outcome.result == 6, Branch::RecoveryResult6),
+        (outcome.result == 7, Branch::RecoveryResult7),
+        (in_order && !finish_begun, Branch::RecoveryStopped1),
+        (in_order && finish_begun, Branch::RecoveryStopped1Again),
+        (matches!(stopped, Some(Stage::Finish { .. })), Branch::RecoveryStopped2),
+        (stopped == Some(Stage::Blobs), Branch::RecoveryStopped3),
+        (stopped == Some(Stage::Duplicates), Branch::RecoveryStopped4),
+        (ended && outcome.steps > 0 && fits(&outcome, case), Branch::RecoveryFitsExactly),
+        (ended && case.allowance == 0, Branch::RecoveryAllowance0),
+        (ended && case.records as usize > sectors, Branch::RecoveryRecordsPast),
+    ];
+    &outcome.branches | &held(&conditions)
+}
+
+fn fits(outcome: &Outcome, case: &Case) -> bool {
+    outcome.steps as u64 == case.allowance
+}
+
+fn branches_of_reclaim(case: &Case) -> Branches {
+    let outcome = reclaim(&case.image, case.allowance);
+    let ended = outcome.result == 0;
+    let conditions = [
+        (ended, Branch::ReclaimResult0),
+        (outcome.result == 1, Branch::ReclaimResult1),
+        (outcome.result == 3, Branch::ReclaimResult3),
+        (outcome.result == 4, Branch::ReclaimResult4),
+        (outcome.result == 5, Branch::ReclaimResult5),
+        (outcome.result == 6, Branch::ReclaimResult6),
+        (outcome.result == 7, Branch::ReclaimResult7),
+        (outcome.result == 8, Branch::ReclaimResult8),
+        (ended && fits(&outcome, case), Branch::ReclaimFitsExactly),
+    ];
+    &outcome.branches | &held(&conditions)
+}
+
+fn branches_of_reader(case: &Case) -> Branches {
+    let Ok(read) = read_items(&case.image) else {
+        return BTreeSet::from([Branch::ReaderResult1]);
+    };
+    let free = crate::sector::free(state(&case.image));
+    held(&[
+        (true, Branch::ReaderResult0),
+        (read.is_empty(), Branch::ReaderNoItem),
+        (free, Branch::ReaderFreeSector),
+    ])
+}
+
+fn branches_of_listing(case: &Case) -> Branches {
+    let (outcome, text) = listing(&case.image);
+    let shows = |word: &str| text.split_ascii_whitespace().any(|shown| shown == word);
+    let conditions = [
+        (outcome.result == 0, Branch::ListingResult0),
+        (outcome.result == 1, Branch::ListingResult1),
+        (outcome.result == 6, Branch::ListingResult6),
+        (shows("active"), Branch::ListingActive),
+        (shows("full"), Branch::ListingFull),
+        (shows("freeing"), Branch::ListingFreeing),
+        (shows("blank"), Branch::ListingBlank),
+        (shows("corrupt"), Branch::ListingCorrupt),
+    ];
+    &outcome.branches | &held(&conditions)
+}
+
+/// Prints the table. The answer: whether every row was met, result 8 apart.
+pub fn cover(count: u64, seed: u64, operations: &[Operation]) -> bool {
+    let mut table: BTreeMap<Branch, u64> = Branch::ALL.iter().map(|branch| (*branch, 0)).collect();
+    for number in 0..count {
+        for branch in branches_of(&case_of(seed, number, operations)) {
+            *table.entry(branch).or_default() += 1;
+        }
+    }
+    println!("{count} cases, seed {seed}: in how many each branch was met");
+    let mut complete = true;
+    for (number, (branch, met)) in table.into_iter().enumerate() {
+        let unreachable = branch == Branch::ReclaimResult8;
+        let remark = match (met, unreachable) {
+            (_, true) => "  no image has it: a page is Active, Full or Freeing, and 3 comes first",
+            (0, false) => "  NOT MET",
+            _ => "",
+        };
+        complete &= met > 0 || unreachable;
+        println!("{:>4} {:<52} {met:>8}{remark}", number + 1, branch.text());
+    }
+    complete
+}

@@ -1,0 +1,204 @@
+//! Draws the items of an image: few names, so that duplicates and blobs of one key meet often.
+
+use crate::items::{start_of_byte, Key, BLOB_INDEX, CHUNK, KNOWN_TYPES};
+use crate::random::Random;
+use crate::sector::{ENTRIES, ENTRY_BYTES};
+use crate::writing::{chunk_data, index_data, key_of, mend_crc, Fields};
+
+/// An item, or something near one, with the entries that it takes on a page.
+#[derive(Clone)]
+pub struct Piece {
+    pub header: [u8; ENTRY_BYTES],
+    pub payload: Vec<u8>,
+}
+
+impl Piece {
+    pub fn entries(&self) -> usize {
+        1 + self.payload.len() / ENTRY_BYTES
+    }
+}
+
+/// The names that an image draws from.
+struct Names {
+    namespaces: Vec<u8>,
+    keys: Vec<Key>,
+}
+
+fn draw_names(random: &mut Random) -> Names {
+    // Keys that differ after a zero byte, in the last byte, and by a byte above 0x7F.
+    let mut keys = vec![key_of("a"), key_of("b"), key_of("a\0x"), key_of("tariff.register"), [0x80; 16]];
+    keys.push([b'k'; 16]);
+    random.shuffle(&mut keys);
+    keys.truncate(1 + random.below(4));
+    let namespaces = match random.below(6) {
+        0 => vec![0, 1],
+        1 => vec![0, 1, 2, 255],
+        2 => vec![1, 2],
+        3 => vec![2, 10],
+        _ => vec![1],
+    };
+    Names { namespaces, keys }
+}
+
+fn draw_span(random: &mut Random) -> u8 {
+    match random.below(40) {
+        0 => 126,
+        1 => 125,
+        2 => 1 + random.below(126) as u8,
+        3 | 4 => 1 + random.below(40) as u8,
+        5..=12 => 2 + random.below(4) as u8,
+        _ => 1,
+    }
+}
+
+fn draw_plain(random: &mut Random, names: &Names) -> Fields {
+    let kind = random.choose(&KNOWN_TYPES[..10]);
+    let mut data = [0xFF; 8];
+    random.fill(&mut data[..4]);
+    Fields {
+        namespace: random.choose(&names.namespaces),
+        kind,
+        span: draw_span(random),
+        chunk_index: if random.once_in(6) { random.byte() } else { 0xFF },
+        key: random.choose(&names.keys),
+        data,
+    }
+}
+
+/// Payload that now and then reads as items, should a header before it go alone.
+fn draw_payload(random: &mut Random, names: &Names, span: u8) -> Vec<u8> {
+    let mut payload = vec![0xFF; ENTRY_BYTES * (span as usize).saturating_sub(1)];
+    match random.below(4) {
+        0 => {
+            for entry in payload.chunks_mut(ENTRY_BYTES) {
+                let fields = Fields { span: 1, ..draw_plain(random, names) };
+                entry.copy_from_slice(&fields.header());
+            }
+        }
+        1 => payload.fill(0xFF),
+        _ => random.fill(&mut payload),
+    }
+    payload
+}
+
+fn piece_of(random: &mut Random, names: &Names, fields: Fields) -> Piece {
+    Piece { header: fields.header(), payload: draw_payload(random, names, fields.span) }
+}
+
+fn draw_chunk(random: &mut Random, namespace: u8, key: Key, chunk_index: u8) -> Fields {
+    let span = if random.once_in(12) { draw_span(random) } else { 1 + random.below(3) as u8 };
+    let size = match random.below(6) {
+        0 => 0xFFFF,
+        1 => 0,
+        _ => random.below(1 + ENTRY_BYTES * (span as usize - 1)) as u16,
+    };
+    Fields { namespace, kind: CHUNK, span, chunk_index, key, data: chunk_data(size) }
+}
+
+/// A version of a blob: chunks and the index that fits them, then perhaps a fault.
+fn draw_version(random: &mut Random, names: &Names, name: (u8, Key), start: u8) -> Vec<Piece> {
+    let (namespace, key) = name;
+    let count = random.choose(&[0, 0, 1, 1, 1, 2, 2, 3]);
+    let mut parts = Vec::new();
+    for chunk in 0..count {
+        let chunk_index = start_of_byte(start) + chunk;
+        let chunk_index = if random.once_in(8) { chunk_index ^ (random.byte() & 0x7F) } else { chunk_index };
+        parts.push(draw_chunk(random, namespace, key, chunk_index));
+    }
+    let size = parts.iter().map(|chunk| u32::from(chunk.data[0]) | u32::from(chunk.data[1]) << 8).sum();
+    let span = if random.once_in(5) { 2 + random.below(2) as u8 } else { 1 };
+    let data = index_data(size, count, start);
+    let index = Fields { namespace, kind: BLOB_INDEX, span, chunk_index: 0xFF, key, data };
+    draw_blob_fault(random, &mut parts, index);
+    parts.into_iter().map(|fields| piece_of(random, names, fields)).collect()
+}
+
+fn draw_blob_fault(random: &mut Random, parts: &mut Vec<Fields>, mut index: Fields) {
+    let [a, b, c, d, count, start, ..] = index.data;
+    let size = u32::from_le_bytes([a, b, c, d]);
+    match random.below(14) {
+        0 => return,
+        1 => index.data = index_data(size, count.wrapping_sub(1), start),
+        2 => index.data = index_data(size, count + 1, start),
+        3 => index.data = index_data(size.wrapping_add(1), count, start),
+        4 => index.data = index_data(size & 0xFFFF, count, start),
+        5 => index.data = index_data(size.wrapping_add(7), count + 1, start),
+        6 | 7 => parts.push(index),
+        8 => parts.push(Fields { data: index_data(random.next() as u32, random.byte(), start), ..index }),
+        9 if !parts.is_empty() => parts.push(random.choose(parts)),
+        _ => {}
+    }
+    parts.push(index);
+}
+
+fn draw_blob(random: &mut Random, names: &Names) -> Vec<Piece> {
+    let name = (random.choose(&names.namespaces), random.choose(&names.keys));
+    let start = random.choose(&[0, 0, 0, 0x80, 0x80, 0x80, 1, 0x7F, 0x81, 0xFF]);
+    let mut pieces = draw_version(random, names, name, start);
+    if random.once_in(2) {
+        pieces.extend(draw_version(random, names, name, start ^ 0x80));
+    }
+    pieces
+}
+
+/// The same name again, with another type, other data or other chunk index, or all alike.
+fn draw_again(random: &mut Random, piece: &Piece) -> Piece {
+    let mut again = piece.clone();
+    match random.below(4) {
+        0 => again.header[1] = random.choose(&KNOWN_TYPES),
+        1 => again.header[24 + random.below(8)] = random.byte(),
+        2 => again.header[3] = random.byte(),
+        _ => {}
+    }
+    mend_crc(&mut again.header);
+    again
+}
+
+/// Makes a piece that is no item: wrong CRC, unknown type, span 0, span too long.
+fn spoil(random: &mut Random, piece: &mut Piece) {
+    match random.below(5) {
+        0 => piece.header[4 + random.below(4)] ^= 1 << random.below(8),
+        1 => piece.header[random.below(ENTRY_BYTES)] ^= 1 << random.below(8),
+        2 => {
+            piece.header[1] = random.choose(&[0x00, 0x03, 0x09, 0x10, 0x22, 0x40, 0x43, 0x49, 0xFF]);
+            mend_crc(&mut piece.header);
+        }
+        3 => {
+            piece.header[2] = 0;
+            mend_crc(&mut piece.header);
+        }
+        _ => {
+            piece.header[2] = (ENTRIES + random.below(130)) as u8;
+            mend_crc(&mut piece.header);
+        }
+    }
+}
+
+/// All pieces of an image, in the order in which they are placed.
+pub fn draw_pieces(random: &mut Random, at_most: usize) -> Vec<Piece> {
+    let names = draw_names(random);
+    let wanted = random.below(at_most + 1);
+    let mut pieces: Vec<Piece> = Vec::new();
+    while pieces.len() < wanted {
+        match random.below(8) {
+            0..=2 => {
+                let fields = draw_plain(random, &names);
+                pieces.push(piece_of(random, &names, fields));
+            }
+            3..=5 => pieces.extend(draw_blob(random, &names)),
+            _ if pieces.is_empty() => {}
+            _ => {
+                let place = random.below(pieces.len());
+                let again = draw_again(random, &pieces[place]);
+                pieces.push(again);
+            }
+        }
+    }
+    for piece in &mut pieces {
+        if random.once_in(12) {
+            spoil(random, piece);
+        }
+    }
+    random.shuffle(&mut pieces);
+    pieces
+}

@@ -1,0 +1,68 @@
+//! Recovery: the stages in order, the refusals, the records.
+
+use crate::active_order::active_order;
+use crate::blobs::blobs;
+use crate::branch::Branch;
+use crate::duplicates::duplicates;
+use crate::finish::finish;
+use crate::scan::{found, greatest, scan, whole_sectors, Lists};
+use crate::sector::{record, state, Record, State, SECTOR_BYTES};
+use crate::steps::{call, Outcome, Run, Stage};
+
+/// "recovery: k Freeing pages, k above 0, greatest sequence above 0xFFFFFFFE - k"
+fn sequences_run_out(lists: &Lists) -> bool {
+    let freeing = lists.pages.iter().filter(|page| page.state == State::Freeing).count() as u32;
+    freeing > 0 && greatest(&lists.pages).is_some_and(|greatest| greatest > 0xFFFF_FFFE - freeing)
+}
+
+/// "Order: recovery 1, 2, 6"
+fn refusal(image: &[u8], lent_records: usize) -> Option<u8> {
+    let Some(sectors) = whole_sectors(image) else {
+        return Some(1);
+    };
+    if lent_records < sectors {
+        return Some(2);
+    }
+    sequences_run_out(&scan(image)).then_some(6)
+}
+
+/// "Recovery, in order". "Repeat until no page counts as Freeing; if there was one, scan again and do 1
+/// again."
+fn stages(run: &mut Run) {
+    let mut lists = scan(&run.image);
+    active_order(run, &mut lists.pages);
+    if finish(run, &mut lists) {
+        lists = scan(&run.image);
+        run.met(Branch::OrderAgain);
+        active_order(run, &mut lists.pages);
+        let freeing = lists.pages.iter().any(|page| state(run.sector(page.sector)) == State::Freeing);
+        run.met_if(freeing, Branch::FinishLeavesFreeing);
+    }
+    let begun = found(&run.image, &lists.pages);
+    blobs(run, &begun);
+    let left = found(&run.image, &lists.pages);
+    run.met_if(left.iter().any(|item| !begun.contains(item)), Branch::DuplicatesUncoveredItem);
+    duplicates(run, &left, &lists.pages);
+    run.met_if(run.list.is_empty(), Branch::RecoveryWithoutStep);
+}
+
+/// The records stay as they are unless the list of steps ended: "recovery fills the records", "one a
+/// sector, in sector order, after recovery's last step", "Records past the sectors stay unchanged."
+pub fn recover(image: &[u8], allowance: u64, records: &mut [Option<Record>]) -> Outcome {
+    let lent_records = records.len();
+    let outcome = call(image, allowance, Stage::ActiveOrder, |run| {
+        match refusal(&run.image, lent_records) {
+            Some(result) => Err(result),
+            None => {
+                stages(run);
+                Ok(())
+            }
+        }
+    });
+    if outcome.result == 0 {
+        for (place, sector) in records.iter_mut().zip(outcome.image.chunks(SECTOR_BYTES)) {
+            *place = Some(record(sector));
+        }
+    }
+    outcome
+}
