@@ -1,0 +1,5 @@
+pub mod Xor
+pub mod Linear
+pub mod Pieces
+pub mod Slicing
+pub mod Places

@@ -1,0 +1,4 @@
+pub mod Counting
+pub mod Masked
+pub mod Words
+pub mod Keys

@@ -1,0 +1,4 @@
+pub mod States
+pub mod Kinds
+pub mod Fields
+pub mod Ones

@@ -1,0 +1,27 @@
+#!/usr/bin/env python3
+# tidy.py [CRATE [FN]]: shortens finished proofs. A need that `search needs` closes is answered in the list at the end, its name and the place of the
+# source go, and so do the lines that only make goals readable while one works.
+import sys, re, glob
+
+def tidy(path):
+    text = open(path).read()
+    text = re.sub(r'^-- src/\S+\n', '', text, flags=re.M)
+    text = re.sub(r'^use \S+ as (?:reads|lts|\S+-reads)\n', '', text, flags=re.M)
+    for name, args in re.findall(r'^(\S+) : tie\.Need-\S+[^\n]*\n\1 ((?:c|c κs)) = search needs\n\n', text, flags=re.M):
+        text = re.sub(r'^%s : tie\.Need-[^\n]*\n%s c[^\n]*= search needs\n\n' % (re.escape(name), re.escape(name)), '', text, flags=re.M)
+        head, tail = text[:text.index('tie.close')], text[text.index('tie.close'):]
+        tail = re.sub(r'(?<=[\s])%s(?=[\s)])' % re.escape(name), '(λ %s. search needs)' % args, tail, count=1)
+        text = head + tail
+    text = re.sub(r'\n{3,}', '\n\n', text)
+    body = text[text.rindex('\nuse '):] if '\nuse ' in text else text
+    for module, names in re.findall(r'^use (\S+)\.\{([^}]*)\}\n', text, flags=re.M):
+        kept = [n for n in (x.strip() for x in names.split(','))
+                if len(re.findall(r'(?<![\w·])%s(?![\w·-])' % re.escape(n.strip('_').replace('_', ' ').strip() or n), re.sub(r'^use .*\n', '', text, flags=re.M))) > 0]
+        old = 'use %s.{%s}\n' % (module, names)
+        text = text.replace(old, 'use %s.{%s}\n' % (module, ', '.join(kept)) if kept else '')
+    open(path, 'w').write(text)
+
+if __name__ == '__main__':
+    crate, fn = (sys.argv[1:] + ['*', '**'])[:2] if len(sys.argv) > 1 else ('*', '**')
+    for path in glob.glob('crates/%s/proofs/%s/Proof.antt' % (crate, fn), recursive=True):
+        tidy(path)
