@@ -1,0 +1,10 @@
+pub mod Order
+pub mod And
+pub mod Bytes
+pub mod Erased
+pub mod Answer
+pub mod Laws
+pub mod Every
+pub mod Frame
+pub mod Lent
+pub mod Words
