@@ -2,3 +2,4 @@ pub mod Counting
 pub mod Masked
 pub mod Words
 pub mod Keys
+pub mod Pieces

@@ -39,55 +39,50 @@ pair-byte w j =
     ∙ in-byte (w / 256 ^ q) r (omega arith)
 
 module _ (s : List ℕ) (small : (i : ℕ) → getD s i 0 < 256) where
-  pub pair-is : (at j : ℕ) → j < 32 → pairAt (le s at 8) j ≡ stateAt s at j
+  -- pair j of the word at byte 32 + k
+  pub pair-is : (k j : ℕ) → j < 32 → pairAt (le s (32 + k) 8) j ≡ stateAt s (4 * k + j)
   unfolding le stateAt
-  pair-is at j h =
-      pair-byte (le s at 8) j
-      ∙ ap (λ (x : ℕ). x / 2 ^ (2 * (j % 4)) % 4) (byte (λ i. getD s (at + i) 0) (λ i. small (at + i)) 8 (j / 4) (omega arith))
-
-  -- a map further on
-  pub state-on : (at k j : ℕ) → stateAt s at (4 * k + j) ≡ stateAt s (at + k) j
-  unfolding stateAt
-  state-on at k j =
-      let e₁ : (4 * k + j) / 4 ≡ k + j / 4 = omega arith in
-      let e₂ : (4 * k + j) % 4 ≡ j % 4 = omega arith in
-      ap₂ (λ (x y : ℕ). getD s (at + x) 0 / 2 ^ (2 * y) % 4) e₁ e₂
-      ∙ ap (λ (x : ℕ). getD s x 0 / 2 ^ (2 * (j % 4)) % 4) (sym (add-assoc at k (j / 4)))
+  pair-is k j h =
+      let e₁ : 32 + k + j / 4 ≡ 32 + (4 * k + j) / 4 = omega arith in
+      let e₂ : j % 4 ≡ (4 * k + j) % 4 = omega arith in
+      pair-byte (le s (32 + k) 8) j
+      ∙ ap (λ (x : ℕ). x / 2 ^ (2 * (j % 4)) % 4) (byte (λ i. getD s (32 + k + i) 0) (λ i. small (32 + k + i)) 8 (j / 4) (omega arith))
+      ∙ ap₂ (λ (x y : ℕ). getD s x 0 / 2 ^ (2 * y) % 4) e₁ e₂
 
   -- 126 entries, in four words
-  pub four-words : (at v : ℕ) → countOf (stateAt s at) v 126
-      ≡ countOf (pairAt (le s at 8)) v 32 + countOf (pairAt (le s (at + 8) 8)) v 32 + countOf (pairAt (le s (at + 16) 8)) v 32 + countOf (pairAt (le s (at + 24) 8)) v 30
-  four-words at v =
-      let word : (k n : ℕ) → n < 33 → countOf (λ j. stateAt s at (4 * k + j)) v n ≡ countOf (pairAt (le s (at + k) 8)) v n =
-      λ k n h. count-ext v (λ j. stateAt s at (4 * k + j)) (pairAt (le s (at + k) 8)) n
-      (λ j l. state-on at k j ∙ sym (pair-is (at + k) j (omega arith))) in
-      let w₀ : countOf (stateAt s at) v 32 ≡ countOf (pairAt (le s at 8)) v 32 =
-      count-ext v (stateAt s at) (pairAt (le s at 8)) 32 (λ j l. sym (pair-is at j l)) in
+  four-words : (v : ℕ) → countOf (stateAt s) v 126
+      ≡ countOf (pairAt (le s 32 8)) v 32 + countOf (pairAt (le s 40 8)) v 32 + countOf (pairAt (le s 48 8)) v 32 + countOf (pairAt (le s 56 8)) v 30
+  four-words v =
+      let word : (k n : ℕ) → n < 33 → countOf (λ j. stateAt s (4 * k + j)) v n ≡ countOf (pairAt (le s (32 + k) 8)) v n =
+      λ k n h. count-ext v (λ j. stateAt s (4 * k + j)) (pairAt (le s (32 + k) 8)) n (λ j l. sym (pair-is k j (omega arith))) in
+      let first : countOf (stateAt s) v 32 ≡ countOf (λ j. stateAt s (4 * 0 + j)) v 32 =
+      count-ext v (stateAt s) (λ j. stateAt s (4 * 0 + j)) 32 (λ j l. ap (stateAt s) (omega arith)) in
       omega (
         arith,
-        w₀,
+        first,
+        word 0 32 (omega arith),
         word 8 32 (omega arith),
         word 16 32 (omega arith),
         word 24 30 (omega arith),
-        count-add v (stateAt s at) 96 30,
-        count-add v (stateAt s at) 64 32,
-        count-add v (stateAt s at) 32 32,
+        count-add v (stateAt s) 96 30,
+        count-add v (stateAt s) 64 32,
+        count-add v (stateAt s) 32 32,
       )
 
   -- the ones of the four masked words are the entries of a state, counted one by one
-  pub total : (g : ℕ) → g < 4 → (at t a b c d : ℕ) → a ≡ le s at 8 → b ≡ le s (at + 8) 8 → c ≡ le s (at + 16) 8 → d ≡ le s (at + 24) 8
+  pub total : (g : ℕ) → g < 4 → (t a b c d : ℕ) → a ≡ le s 32 8 → b ≡ le s 40 8 → c ≡ le s 48 8 → d ≡ le s 56 8
       → t ≡ masked a (over g 0 32) (over 1 0 32) + masked b (over g 0 32) (over 1 0 32) + masked c (over g 0 32) (over 1 0 32) + masked d (over g 0 32) (over 1 0 30)
-      → t ≡ countOf (stateAt s at) (3 - g) 126
+      → t ≡ countOf (stateAt s) (3 - g) 126
   unfolding over
-  total g hg at t a b c d ea eb ec ed e =
+  total g hg t a b c d ea eb ec ed e =
       let m : (w x : ℕ) → w ≡ x → masked w (over g 0 32) (over 1 0 32) ≡ countOf (pairAt x) (3 - g) 32 =
       λ w x q. masked-count g hg 0 32 w ∙ ap (λ (y : ℕ). countOf (pairAt y) (3 - g) 32) q in
       omega (
         arith,
         e,
-        m a (le s at 8) ea,
-        m b (le s (at + 8) 8) eb,
-        m c (le s (at + 16) 8) ec,
+        m a (le s 32 8) ea,
+        m b (le s 40 8) eb,
+        m c (le s 48 8) ec,
         masked-count g hg (over g 0 2) 30 d ∙ ap (λ (y : ℕ). countOf (pairAt y) (3 - g) 30) ed,
-        four-words at (3 - g),
+        four-words (3 - g),
       )

@@ -1,21 +1,13 @@
+-- `entry::index_size` meets its contract: a number of a part is the number at its place in the whole. Assumes nothing.
+use mathlib.Core.Path.{sym, _∙_}
+use lib.Dec.{lit≤}
+use Rattle.word.proofs.Bytes.{le-part}
 use borrow.Author.Needs.{needs}
 use Rattle.entry.proofs.fields.index_size.Statement.{statement}
 use Rattle.entry.proofs.fields.index_size.Tie as tie
-use Rattle.entry.proofs.fields.index_size.Reads as reads
-use Rattle.entry.proofs.fields.index_size.Lts as lts
-use Rattle.word.proofs.le32.Reads as le32-reads
 
--- src/fields.rt:72:19
-add-le32 : tie.Need-add-le32
-add-le32 c = search needs
-
--- src/fields.rt:72:5
-le32-requires : tie.Need-le32-requires
-le32-requires c κs = search needs
-
--- src/fields.rt:68:1
 returns : tie.Need-returns
-returns c = ?
+returns c = c .le32 .ensures ∙ sym (le-part (c .before .before .args .s .now) (c .before .before .args .at) 32 24 4 (lit≤ tt))
 
 pub index-size-spec : {M : Type 1} → statement M
-index-size-spec = tie.close (tie.spec add-le32 le32-requires returns)
+index-size-spec = tie.close (tie.spec (λ c. search needs) (λ c κs. search needs) returns)

@@ -1,29 +1,16 @@
+-- `entry::key_at` meets its contract: a number of a part is the number at its place in the whole. Assumes nothing.
+use lib.Dec.{lit≤}
+use Rattle.word.proofs.Bytes.{be-part}
+use Rattle.entry.specs.Fields.{keyOf}
 use borrow.Author.Needs.{needs}
 use Rattle.entry.proofs.fields.key_at.Statement.{statement}
 use Rattle.entry.proofs.fields.key_at.Tie as tie
-use Rattle.entry.proofs.fields.key_at.Reads as reads
-use Rattle.entry.proofs.fields.key_at.Lts as lts
-use Rattle.word.proofs.be64.Reads as be64-reads
 
--- src/fields.rt:32:29
-add-be64 : tie.Need-add-be64
-add-be64 c = search needs
-
--- src/fields.rt:32:15
-be64-requires : tie.Need-be64-requires
-be64-requires c κs = search needs
-
--- src/fields.rt:33:28
-add-be64-2 : tie.Need-add-be64-2
-add-be64-2 c = search needs
-
--- src/fields.rt:33:14
-be64-requires-2 : tie.Need-be64-requires-2
-be64-requires-2 c κs = search needs
-
--- src/fields.rt:27:1
 returns : tie.Need-returns
-returns c = ?
+unfolding keyOf
+returns c =
+    let k = c .before .before .before in
+    rw (c .before .be64 .ensures, c .be642 .ensures, be-part (k .args .s .now) (k .args .at) 32 8 8 (lit≤ tt), be-part (k .args .s .now) (k .args .at) 32 16 8 (lit≤ tt))
 
 pub key-at-spec : {M : Type 1} → statement M
-key-at-spec = tie.close (tie.spec add-be64 be64-requires add-be64-2 be64-requires-2 returns)
+key-at-spec = tie.close (tie.spec (λ c. search needs) (λ c κs. search needs) (λ c. search needs) (λ c κs. search needs) returns)

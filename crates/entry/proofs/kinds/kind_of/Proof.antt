@@ -1,63 +1,68 @@
+-- `entry::kind_of` meets its contract: at each code the definition computes, and past the twelve every test of it fails. Assumes nothing.
+use mathlib.Core.Logic.{⊎-elim}
+use borrow.Author.Tests.{ne-eqb}
+use Rattle.entry.specs.Kinds.{kindOf}
 use Rattle.entry.proofs.kinds.kind_of.Statement.{statement}
 use Rattle.entry.proofs.kinds.kind_of.Tie as tie
-use Rattle.entry.proofs.kinds.kind_of.Reads as reads
-use Rattle.entry.proofs.kinds.kind_of.Lts as lts
 
--- src/kinds.rt:16:1
 returns : tie.Need-returns
-returns c = ?
+unfolding kindOf
+returns c = rw (c .match .keys1)
 
--- src/kinds.rt:16:1
 returns-2 : tie.Need-returns-2
-returns-2 c = ?
+unfolding kindOf
+returns-2 c = rw (c .match .keys2)
 
--- src/kinds.rt:16:1
 returns-3 : tie.Need-returns-3
-returns-3 c = ?
+unfolding kindOf
+returns-3 c = rw (c .match .keys3)
 
--- src/kinds.rt:16:1
 returns-4 : tie.Need-returns-4
-returns-4 c = ?
+unfolding kindOf
+returns-4 c = rw (c .match .keys4)
 
--- src/kinds.rt:16:1
 returns-5 : tie.Need-returns-5
-returns-5 c = ?
+unfolding kindOf
+returns-5 c = rw (c .match .keys5)
 
--- src/kinds.rt:16:1
 returns-6 : tie.Need-returns-6
-returns-6 c = ?
+unfolding kindOf
+returns-6 c = rw (c .match .keys6)
 
--- src/kinds.rt:16:1
 returns-7 : tie.Need-returns-7
-returns-7 c = ?
+unfolding kindOf
+returns-7 c = rw (c .match .keys7)
 
--- src/kinds.rt:16:1
 returns-8 : tie.Need-returns-8
-returns-8 c = ?
+unfolding kindOf
+returns-8 c = rw (c .match .keys8)
 
--- src/kinds.rt:16:1
 returns-9 : tie.Need-returns-9
-returns-9 c = ?
+unfolding kindOf
+returns-9 c = rw (c .match .keys9)
 
--- src/kinds.rt:16:1
 returns-10 : tie.Need-returns-10
-returns-10 c = ?
+unfolding kindOf
+returns-10 c = rw (c .match .keys10)
 
--- src/kinds.rt:16:1
 returns-11 : tie.Need-returns-11
-returns-11 c = ?
+unfolding kindOf
+returns-11 c = rw (c .match .keys11)
 
--- src/kinds.rt:16:1
 returns-12 : tie.Need-returns-12
-returns-12 c = ?
+unfolding kindOf
+returns-12 c = rw (c .match .keys12)
 
--- src/kinds.rt:16:1
 returns-13 : tie.Need-returns-13
-returns-13 c = ?
+unfolding kindOf
+returns-13 c = ⊎-elim (λ e. rw e) (⊎-elim (λ e. rw e) (λ e. rw e)) (c .match .keys13)
 
--- src/kinds.rt:16:1
 returns-14 : tie.Need-returns-14
-returns-14 c = ?
+unfolding kindOf
+returns-14 c =
+    let t = c .before .args .code in
+    let r = c .match .rest in
+    simp (ne-eqb t _ (r .0 .0 .0 .0 .0 .0 .0 .0 .0 .0 .0 .0 .1), ne-eqb t _ (r .0 .0 .0 .0 .0 .0 .0 .0 .0 .0 .0 .1), ne-eqb t _ (r .0 .0 .0 .0 .0 .0 .0 .0 .0 .0 .1), ne-eqb t _ (r .0 .0 .0 .0 .0 .0 .0 .0 .0 .1), ne-eqb t _ (r .0 .0 .0 .0 .0 .0 .0 .0 .1), ne-eqb t _ (r .0 .0 .0 .0 .0 .0 .0 .1), ne-eqb t _ (r .0 .0 .0 .0 .0 .0 .1), ne-eqb t _ (r .0 .0 .0 .0 .0 .1), ne-eqb t _ (r .0 .0 .0 .0 .1), ne-eqb t _ (r .0 .0 .0 .1), ne-eqb t _ (r .0 .0 .1), ne-eqb t _ (r .0 .1))
 
 pub kind-of-spec : {M : Type 1} → statement M
 kind-of-spec =

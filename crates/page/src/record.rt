@@ -1,0 +1,42 @@
+// The page record of a sector.
+use crate::state::PageState;
+ghost use mathlib.Core.Path.{_≡_};
+ghost use lib.ListN.{length};
+ghost use Rattle.crc.specs.Table.{crcTable};
+ghost use Rattle.page.specs.Record.{recordOf};
+
+// What is told of a sector: the numbers are 0 where it is free.
+pub struct PageRecord {
+    pub state: PageState,
+    pub sequence: u32,
+    pub written: u32,
+    pub erased: u32,
+    pub empty: u32,
+    pub illegal: u32,
+}
+
+pub fn page_record(t: &[u32; 324], s: &[u8]) -> PageRecord
+    requires { ⌜ (now t ≡ crcTable) × (length (now s) ≡ 4096) ⌝ }
+    ensures { λ r. ⌜ r ≡ recordOf (now (s .entry)) ⌝ }
+{
+    let state = crate::state::page_state(t, s);
+    if crate::state::is_free(state) {
+        return PageRecord {
+            state,
+            sequence: 0,
+            written: 0,
+            erased: 0,
+            empty: 0,
+            illegal: 0,
+        };
+    }
+    let totals = entry::totals_of(s);
+    PageRecord {
+        state,
+        sequence: word::le32(s, 4),
+        written: totals.written,
+        erased: totals.erased,
+        empty: totals.empty,
+        illegal: totals.illegal,
+    }
+}

@@ -1,0 +1,81 @@
+// The item walk of a sector.
+use entry::Key;
+use entry::Kind;
+ghost use mathlib.Core.Path.{_≡_};
+ghost use mathlib.Core.List.{_++_, map};
+ghost use Prim.Native.Nat.{_+_, _<_, _≤_};
+ghost use lib.ListN.{length, take};
+ghost use Rattle.crc.specs.Table.{crcTable};
+ghost use Rattle.page.specs.Walk.{Laid, walk, readingOf};
+
+// An item as its header tells it: where it stands, and what the 32 bytes say. `data_bytes` is the eight data bytes as a number, lowest first.
+pub struct ItemHeader {
+    pub entry: usize,
+    pub namespace: u8,
+    pub kind: Kind,
+    pub span: usize,
+    pub chunk_index: u8,
+    pub key: Key,
+    pub data_bytes: u64,
+}
+
+pub enum Reading {
+    Item(ItemHeader),
+    Nothing,
+}
+
+// The item that begins at entry `i`, if one does. The CRC is last but for the span: it is what costs time.
+pub fn read_entry(t: &[u32; 324], s: &[u8], i: usize) -> Reading
+    requires { ⌜ (now t ≡ crcTable) × (length (now s) ≡ 4096) × (i < 126) ⌝ }
+    ensures { λ r. ⌜ r ≡ readingOf (now (s .entry)) i ⌝ }
+{
+    let state = entry::entry_state(s, i);
+    if state != 2 {
+        return Reading::Nothing;
+    }
+    let at = 64 + i * 32;
+    let seen = word::le32(s, at + 4);
+    let right = entry::entry_crc(t, s, at);
+    if seen != right {
+        return Reading::Nothing;
+    }
+    let kind = entry::kind_of(s[at + 1]);
+    if !entry::is_known(kind) {
+        return Reading::Nothing;
+    }
+    let span = word::size(s[at + 2]);
+    if span == 0 {
+        return Reading::Nothing;
+    }
+    if 126 < i + span {
+        return Reading::Nothing;
+    }
+    Reading::Item(ItemHeader {
+        entry: i,
+        namespace: s[at],
+        kind,
+        span,
+        chunk_index: s[at + 3],
+        key: entry::key_at(s, at),
+        data_bytes: word::le64(s, at + 24),
+    })
+}
+
+// The entry numbers of the sector's items plus `base`, into `out` from `from` on: one walk, each entry read once. Answers where they end.
+pub fn places(t: &[u32; 324], s: &[u8], base: usize, out: &mut [u16], from: usize) -> usize
+    requires { ⌜ (now t ≡ crcTable) × (length (now s) ≡ 4096) × (base + 126 ≤ 65536) × (from + 126 ≤ length (now out)) ⌝ }
+    ensures { λ r. ⌜ (take r (now (out .exit)) ≡ take from (now (out .entry)) ++ map (λ (x : Laid). base + x .entry) (walk (now (s .entry)) 126 0)) × (r ≤ from + 126) ⌝ }
+{
+    let mut k = from;
+    let mut i: usize = 0;
+    while i < 126 {
+        let Reading::Item(item) = read_entry(t, s, i) else {
+            i += 1;
+            continue;
+        };
+        out[k] = (base + i) as u16;
+        k += 1;
+        i += item.span;
+    }
+    k
+}
