@@ -1,0 +1,35 @@
+-- Clearing a sector is one erasure, or nothing. Assumes nothing.
+use mathlib.Core.Path.{_≡_}
+use mathlib.Core.Bool.{Bool, true, false, cond}
+use mathlib.Core.List.{List, [], _∷_}
+use Prim.Native.Nat.{ℕ, _+_, _-_, _*_}
+use native.Mathlib.Omega.{arith}
+use Rattle.word.specs.Number.{part}
+use Rattle.flash.specs.Step.{erase, sector}
+use Rattle.flash.proofs.Every.{Every}
+use Rattle.flash.proofs.Frame.{AllIn}
+use Rattle.item.specs.Initialise.{allOnes, clearing}
+
+module _ (s : ℕ) (l : List ℕ) where
+  -- what a callee saw that was lent the sector
+  pub lent-sector : part l (s * 4096) (s * 4096 + 4096 - s * 4096) ≡ sector s l
+  unfolding sector
+  lent-sector =
+      let n : s * 4096 + 4096 - s * 4096 ≡ 4096 = omega arith in
+      rw n
+
+  pub clearing-blank : allOnes (sector s l) ≡ true → clearing s l ≡ []
+  unfolding clearing
+  clearing-blank e = rw e
+
+  pub clearing-used : allOnes (sector s l) ≡ false → clearing s l ≡ erase s ∷ []
+  unfolding clearing
+  clearing-used e = rw e
+
+  pub clearing-in : AllIn (s * 4096) (s * 4096 + 4096) (clearing s l)
+  unfolding clearing Every
+  clearing-in = go (allOnes (sector s l))
+    where
+      go : (b : Bool) → AllIn (s * 4096) (s * 4096 + 4096) (cond b [] (erase s ∷ []))
+      go true = tt
+      go false = ((omega arith, omega arith), tt)

@@ -1,0 +1,147 @@
+-- `item::copy_words` meets its contract: a word made in the lent part is that word of the image, and the source stays as it was. Assumes nothing.
+use mathlib.Core.Path.{_≡_, refl, _∙_}
+use Prim.Native.Nat.{_+_, _-_, _*_, _≤_}
+use native.Mathlib.Omega.{arith}
+use lib.ListN.{length}
+use Rattle.flash.specs.Did.{Goes}
+use Rattle.flash.proofs.Laws.{goes-start, goes-on, goes-stop, goes-end}
+use native.Mathlib.Nat.{sub-zero}
+use Rattle.word.specs.Number.{part}
+use Rattle.flash.specs.Words.{words}
+use Rattle.flash.proofs.Words.{words-end}
+use Rattle.flash.proofs.Every.{every-one}
+use Rattle.flash.proofs.Frame.{did-kept}
+use Rattle.flash.proofs.Lent.{did-lent}
+use Rattle.item.proofs.Turns.{copy-more}
+use borrow.Author.Needs.{needs}
+use Rattle.item.proofs.copy.copy_words.Statement.{statement}
+use Rattle.item.proofs.copy.copy_words.Tie as tie
+use Rattle.item.proofs.copy.copy_words.Reads as reads
+use Rattle.item.proofs.copy.copy_words.Lts as lts
+use Rattle.flash.proofs.program_word.Reads as program-word-reads
+
+abbrev Inv-loop : tie.InvT-loop
+Inv-loop image₀ from to n allowed left₀ k₀ image left k =
+    (k ≤ n) × (length image ≡ length image₀) × (part image from (n * 4) ≡ part image₀ from (n * 4))
+    × Goes (words to (part image₀ from (n * 4)) 0 n) allowed image₀ (words to (part image₀ from (n * 4)) k (n - k)) left image
+
+abbrev μ-loop : tie.MeasureT-loop
+μ-loop image₀ from to n allowed left₀ k₀ image left k = n - k
+
+loop-holds : tie.Need-loop-holds Inv-loop μ-loop
+loop-holds c = (omega arith, refl, refl, rw sub-zero (goes-start _ _ _))
+
+mul-i : tie.Need-mul-i Inv-loop μ-loop
+mul-i c = search needs
+
+add-a : tie.Need-add-a Inv-loop μ-loop
+add-a c = search needs
+
+slice-read-b0 : tie.Need-slice-read-b0 Inv-loop μ-loop
+slice-read-b0 c = search needs
+
+add-b1 : tie.Need-add-b1 Inv-loop μ-loop
+add-b1 c = search needs
+
+slice-read-b1 : tie.Need-slice-read-b1 Inv-loop μ-loop
+slice-read-b1 c = search needs
+
+add-b2 : tie.Need-add-b2 Inv-loop μ-loop
+add-b2 c = search needs
+
+slice-read-b2 : tie.Need-slice-read-b2 Inv-loop μ-loop
+slice-read-b2 c = search needs
+
+add-b3 : tie.Need-add-b3 Inv-loop μ-loop
+add-b3 c = search needs
+
+slice-read-b3 : tie.Need-slice-read-b3 Inv-loop μ-loop
+slice-read-b3 c = search needs
+
+sub-program-word : tie.Need-sub-program-word Inv-loop μ-loop
+sub-program-word c = search needs
+
+part-program-word-start : tie.Need-part-program-word-start Inv-loop μ-loop
+part-program-word-start c = search needs
+
+part-program-word-end : tie.Need-part-program-word-end Inv-loop μ-loop
+part-program-word-end c = search needs
+
+program-word-requires : tie.Need-program-word-requires Inv-loop μ-loop
+program-word-requires c κs = search needs
+
+enum-known-r : tie.Need-enum-known-r Inv-loop μ-loop
+enum-known-r c = search needs
+
+enum-told : tie.Need-enum-told Inv-loop μ-loop
+enum-told c = search needs
+
+same-length : tie.Need-same-length Inv-loop μ-loop
+same-length c = search needs
+
+returns : tie.Need-returns Inv-loop μ-loop
+returns c =
+    let p = c .before .before .before .before in
+    let l = p .before .before .before .before .before .before .before in
+    let a = l .before .before .args in
+    let v = l .loop in
+    let made = did-lent (a .to) (length (v .image) - a .to) (v .image) (every-one _ _ (omega arith)) (p .program-word .ensures) in
+    goes-stop _ (v .inv .3) (copy-more (a .to) (a .from) (a .n) (v .k) (omega arith) (v .image) (a .image .now) (v .inv .2)) made (c .enum-told .given .1)
+
+add-k : tie.Need-add-k Inv-loop μ-loop
+add-k c = search needs
+
+loop-less : tie.Need-loop-less Inv-loop μ-loop
+loop-less c = search needs
+
+loop-again : tie.Need-loop-again Inv-loop μ-loop
+loop-again c =
+    let p = c .before .before .before .before .before in
+    let l = p .before .before .before .before .before .before .before in
+    let a = l .before .before .args in
+    let v = l .loop in
+    let made = did-lent (a .to) (length (v .image) - a .to) (v .image) (every-one _ _ (omega arith)) (p .program-word .ensures) in (
+      omega arith,
+      search needs,
+      did-kept (a .to) (a .to + a .n * 4) (a .from) (a .n * 4) (every-one _ _ (omega arith, omega arith)) (l .before .before .pre .2) made ∙ v .inv .2,
+      goes-on (v .inv .3) (copy-more (a .to) (a .from) (a .n) (v .k) (omega arith) (v .image) (a .image .now) (v .inv .2)) made (c .before .r .given .1),
+    )
+
+same-length-2 : tie.Need-same-length-2 Inv-loop μ-loop
+same-length-2 c = search needs
+
+returns-2 : tie.Need-returns-2 Inv-loop μ-loop
+returns-2 c =
+    let l = c .before in
+    let a = l .before .before .args in
+    goes-end (l .loop .inv .3) (words-end (a .to) (part (a .image .now) (a .from) (a .n * 4)) (l .loop .k) (a .n) (omega arith))
+
+pub copy-words-spec : {M : Type 1} → statement M
+copy-words-spec =
+    tie.close
+    (tie.spec
+    Inv-loop
+    μ-loop
+    loop-holds
+    mul-i
+    add-a
+    slice-read-b0
+    add-b1
+    slice-read-b1
+    add-b2
+    slice-read-b2
+    add-b3
+    slice-read-b3
+    sub-program-word
+    part-program-word-start
+    part-program-word-end
+    program-word-requires
+    enum-known-r
+    enum-told
+    same-length
+    returns
+    add-k
+    loop-less
+    loop-again
+    same-length-2
+    returns-2)

@@ -1,0 +1,5 @@
+pub mod Initialise
+pub mod Mark
+pub mod States
+pub mod Copy
+pub mod Erase
