@@ -1,6 +1,8 @@
 //! The branches of the rules, numbered in the order of document 01. The model notes each one that a call
 //! meets; the coverage table counts them and the recorded sample is chosen by them.
 
+use crate::protocol::Operation;
+
 macro_rules! branches {
     ($($name:ident $text:literal,)*) => {
         #[derive(Clone, Copy, PartialEq, Eq, PartialOrd, Ord, Debug)]
@@ -14,6 +16,23 @@ macro_rules! branches {
             }
         }
     };
+}
+
+impl Branch {
+    /// The operations whose recorded sample has to meet the branch: those where it is cheapest to see.
+    pub fn belongs_to(self, operation: Operation) -> bool {
+        match operation {
+            Operation::ItemReader => self <= Branch::ReaderFreeSector,
+            Operation::Recover => {
+                (Branch::RecoveryResult0..=Branch::DuplicateFullAfterBlobs).contains(&self)
+            }
+            Operation::Reclaim => {
+                (Branch::InitialiseBlank..=Branch::StoppedBeforeStates).contains(&self)
+                    || (Branch::ReclaimResult0..=Branch::ReclaimTakesLastFree).contains(&self)
+            }
+            Operation::Listing => self >= Branch::ListingResult0,
+        }
+    }
 }
 
 branches! {
@@ -49,8 +68,11 @@ branches! {
     WalkIllegal "walk: reaches an Illegal entry",
     WalkWrongCrc "walk: Written, CRC wrong",
     WalkUnknownType "walk: CRC right, type unknown",
+    WalkItemInUnknownSpan "walk: an item in the span of an unknown type",
     WalkSpanZero "walk: readable, span 0",
     WalkSpanTooLong "walk: readable, index + span above 126",
+    WalkSpanJustTooLong "walk: readable, index + span 127",
+    WalkItemAfterSpanTooLong "walk: an item after a span too long",
     WalkSpanToLastEntry "walk: item that ends with entry 125",
     WalkSpan126 "walk: item of span 126",
     WalkPayloadNotWritten "walk: item with a payload entry that is not Written",
@@ -69,10 +91,20 @@ branches! {
     RecoveryStopped2 "recovery stopped: in stage 2",
     RecoveryStopped3 "recovery stopped: in stage 3",
     RecoveryStopped4 "recovery stopped: in stage 4",
+    RecoveryStoppedAmongMarks "recovery stopped: among marks out of sector order",
+    RecoveryStoppedBeforeKept "recovery stopped: before the mark of the kept page",
+    RecoveryStoppedInErasure "recovery stopped: inside the erasure of an item",
+    RecoveryStoppedBetween3 "recovery stopped: between two erasures of stage 3",
+    RecoveryStoppedBetween4 "recovery stopped: between two erasures of stage 4",
+    RecoveryStoppedBeforeFull "recovery stopped: before the last Full mark",
     RecoveryFitsExactly "recovery: the list fits the allowance exactly",
     RecoveryAllowance0 "recovery: allowance 0, no step, result 0",
     RecoveryRecordsPast "recovery: result 0, records past the sectors",
     RecoveryWithoutStep "recovery: a list without a step",
+    RecoveryResult2Before6 "recovery: result 2 where 6 would hold",
+    RecoveryTopWithoutFreeing "recovery: greatest sequence at the top, no Freeing page",
+    RecoveryJustEnough "recovery: several Freeing pages, sequences just enough",
+    RecoveryJustTooMany "recovery: several Freeing pages, one too many",
     OrderNoActive "stage 1: no Active page",
     OrderKeptIsLast "stage 1: the kept page is the last of the list",
     OrderChangesPlaces "stage 1: the kept page changes places with the last",
@@ -80,60 +112,85 @@ branches! {
     OrderMarksOther "stage 1: marks another Active page Full",
     OrderMarksKept "stage 1: marks the kept page Full",
     OrderAgain "stage 1: done again",
+    OrderAgainWithoutStep "stage 1: done again without a step before, another list",
     FinishNoFreeing "stage 2: no Freeing page",
     FinishOneRound "stage 2: one round",
     FinishSecondRound "stage 2: a second round",
     FinishLastTakesPlace "stage 2: the last page takes the source's place",
-    FinishSeveralActive "stage 2: the first of several Active pages",
+    FinishSourceOutOfOrder "stage 2: the first Freeing page is not of the lowest sector",
+    FinishFirstActiveDecides "stage 2: first and last Active page judged unlike",
     FinishActiveNoCopy "stage 2: Active page is no copy",
+    FinishNamespace0Decides "stage 2: no copy by a namespace 0 item alone",
+    FinishNamesAlike "stage 2: no copy, though all names are on the source",
     FinishCopyWithoutItem "stage 2: copy without an item erased",
     FinishCopyPartial "stage 2: partial copy erased",
-    FinishCopyComplete "stage 2: copy with all items erased",
+    FinishCopyComplete "stage 2: copy with as many items erased",
+    FinishCopyWithMore "stage 2: copy with more items than the source erased",
+    FinishCopyHadGreatest "stage 2: the erased copy had the greatest sequence",
+    FinishOnlyCopyIsFree "stage 2: the erased copy is the only free sector",
+    FinishNewestNotAskedAfterCopy "stage 2: after a copy the newest page is not asked",
     NewestNoPage "stage 2, newest page: there is none",
     NewestNotNewer "stage 2, newest page: not newer than the source",
-    NewestEqualToSource "stage 2, newest page: sequence equal to the source's",
-    NewestAmongEquals "stage 2, newest page: the last among equals",
-    NewestIsFreeing "stage 2, newest page: another Freeing page",
+    NewestEqualHoldsAll "stage 2, newest page: holds all, of equal sequence",
+    NewestLastAmongEqualsDecides "stage 2, newest page: first and last of equals judged unlike",
+    NewestIsFreeing "stage 2, newest page: another Freeing page holds all",
     NewestCountsAsFull "stage 2, newest page: a source that counts as Full",
     NewestLacksItem "stage 2, newest page: lacks a source item",
     NewestHoldsAll "stage 2, newest page: holds each source item",
     NewestHoldsNoItem "stage 2, newest page: the source has no item",
+    NewestNamespace0Decides "stage 2, newest page: lacks a namespace 0 item alone",
+    NewestChunkIndexDecides "stage 2, newest page: lacks by the chunk index alone",
+    NewestHoldsOtherType "stage 2, newest page: holds under another type",
     FinishNoFreeSector "stage 2: no free sector",
     FinishCopiedAfresh "stage 2: copied afresh",
-    FinishSourceHasGreatest "stage 2: the source alone has the greatest sequence",
+    FinishSourceHasGreatest "stage 2: the source's sequence is above the list's",
     FinishTargetBlank "stage 2: the target is Blank",
+    FinishTargetOutOfOrder "stage 2: the target is not the highest free sector",
+    FinishFullTargetBeforeRound "stage 2: the target is Full, a round follows",
     FinishLeavesFreeing "stage 2: a source is left Freeing",
     InitialiseBlank "initialise: a Blank sector",
     InitialiseCorrupt "initialise: a Corrupt sector, erased first",
     CopyOfNoItem "copy: a source without an item",
     CopyUsesLastEntry "copy: entry 125 is used, marked Full",
+    StoppedInInitialise "stopped: inside initialise",
+    StoppedInCopy "stopped: inside the bytes of a copy",
+    StoppedBeforeStates "stopped: between the bytes of a copy and its states",
     EraseOverSeveralWords "erase an item: over several state words",
     BlobNoIndex "stage 3: chunks without an index",
     BlobCountUnlike "stage 3: count unlike, size alike",
     BlobSizeUnlike "stage 3: count alike, size unlike",
+    BlobSizeUnlikePast16Bits "stage 3: size unlike above 16 bits alone",
     BlobBothUnlike "stage 3: count and size unlike",
     BlobSoundEmpty "stage 3: sound without a chunk",
     BlobSoundOneChunk "stage 3: sound with one chunk",
     BlobSoundSeveralChunks "stage 3: sound with several chunks",
+    BlobSoundSameChunkTwice "stage 3: sound with a chunk index twice",
+    BlobSoundPast16Bits "stage 3: sound with a size past 16 bits",
     BlobSeveralIndices "stage 3: the newest of several indices",
     BlobIndicesTie "stage 3: the newest index by its place in the list",
+    BlobOlderIndexStays "stage 3: unsound, an older index stays",
     BlobIndexOfLongSpan "stage 3: index of span above 1, one entry erased",
     BlobNamespace0 "stage 3: a version in namespace 0",
     BlobNamespace0Erased "stage 3: unsound version in namespace 0 erased",
     BlobOlderStart0 "stage 3: older of two, start 0 goes",
     BlobOlderStart80 "stage 3: older of two, start 0x80 goes",
     BlobOlderByList "stage 3: older of two by the place in the list",
-    DuplicatesUncoveredItem "stage 4: finds an item that stage 3 uncovered",
+    BlobOlderByIndexThatCounts "stage 3: older of two, another index would say otherwise",
+    DuplicateUncovered "stage 4: duplicate of an item that stage 3 uncovered",
     DuplicateNone "stage 4: no duplicate",
+    DuplicateKeysAlikeToZero "stage 4: keys alike up to a zero byte",
     DuplicateBySequence "stage 4: older by sequence",
     DuplicateByEntry "stage 4: older by entry",
     DuplicateByList "stage 4: older by the place in the list",
+    DuplicateByListNotSectors "stage 4: older by the list, newer by the sector",
     DuplicateSeveralOld "stage 4: several old items of a group",
     DuplicateTypesDiffer "stage 4: old and kept of different types",
-    DuplicateKeptIndexSameStart "stage 4: old index, kept index of the same start",
-    DuplicateKeptIndexOtherStart "stage 4: old index, kept index of the other start",
-    DuplicateKeptNoIndex "stage 4: old index, kept item no index",
+    DuplicateKeptIndexSameStart "stage 4: chunks stay, kept index of the same start",
+    DuplicateStartsUnlikeBytes "stage 4: chunks stay, same start by unlike bytes",
+    DuplicateKeptIndexOtherStart "stage 4: chunks go, kept index of the other start",
+    DuplicateKeptNoIndex "stage 4: chunks go, kept item no index",
     DuplicateIndexTakesChunks "stage 4: old index takes its chunks",
+    DuplicateOtherStartStays "stage 4: old index goes, chunks of the other start stay",
     DuplicateIndexWithoutChunks "stage 4: old index has no chunk to take",
     DuplicateChunkErasedBefore "stage 4: chunk erased before, not again",
     DuplicateIndexOfLongSpan "stage 4: old index of span above 1, all erased",
@@ -147,6 +204,10 @@ branches! {
     ReclaimResult6 "reclaim: result 6",
     ReclaimResult7 "reclaim: result 7",
     ReclaimResult8 "reclaim: result 8",
+    ReclaimResult3Before4 "reclaim: result 3 where 4 would hold",
+    ReclaimResult5Before6 "reclaim: result 5 where 6 would hold",
+    ReclaimJustEnough "reclaim: greatest sequence 0xFFFFFFFD",
+    ReclaimJustTooMany "reclaim: greatest sequence 0xFFFFFFFE",
     ReclaimFitsExactly "reclaim: the list fits the allowance exactly",
     ReclaimNoPage "reclaim: no page",
     ReclaimAllWritten "reclaim: pages, each with 126 Written",
@@ -157,6 +218,9 @@ branches! {
     ReclaimTieOfUnlikeSequences "reclaim: the last among equals, unlike sequences",
     ReclaimNotTheFirst "reclaim: chosen is not the first candidate",
     ReclaimNextPast32Bits "reclaim: points at next 2^32",
+    ReclaimPointsPast32BitsDecide "reclaim: points past 32 bits decide",
+    ReclaimIllegalWouldDecide "reclaim: Illegal entries, if counted, would decide",
+    ReclaimAgeWouldDecide "reclaim: age without an Erased entry would decide",
     ReclaimAllErased "reclaim: all 126 Erased, erased",
     ReclaimCopies "reclaim: copies",
     ReclaimMarksAgain "reclaim: a Freeing page marked again",

@@ -79,8 +79,7 @@ pub fn check(input: &str, output: &str) -> io::Result<bool> {
 /// Feeds the input from a thread of its own: a program that answers before it has read all would
 /// otherwise wait for us while we wait for it.
 fn answers_of(program: &str, input: Vec<u8>) -> io::Result<(Vec<u8>, bool)> {
-    let mut child =
-        Command::new(program).stdin(Stdio::piped()).stdout(Stdio::piped()).spawn()?;
+    let mut child = Command::new(program).stdin(Stdio::piped()).stdout(Stdio::piped()).spawn()?;
     let mut stdin = child.stdin.take().expect("piped");
     // A program that ends early closes its input: its answers show that, so the error is dropped here.
     let feeder = thread::spawn(move || stdin.write_all(&input).is_ok());

@@ -9,28 +9,38 @@ use crate::listing::listing;
 use crate::protocol::{Case, Operation};
 use crate::reclaim::reclaim;
 use crate::recover::recover;
+use crate::scan::{greatest, scan};
 use crate::sector::{
     blank, entry_state, header_crc_right, number, record, state, state_of_word, version, version_known,
-    EntryState, Record, State, ENTRIES, SECTOR_BYTES,
+    EntryState, Record, State, ENTRIES, ENTRY_BYTES, SECTOR_BYTES,
 };
-use crate::steps::{Outcome, Stage};
+use crate::steps::{Outcome, Stage, Step, TaggedStep};
 
 type Branches = BTreeSet<Branch>;
 
-/// Every branch that a case meets.
+/// Every branch that a case meets. Where the call is refused before it reads a sector, none of reading one.
 pub fn branches_of(case: &Case) -> Branches {
-    let mut met = Branches::new();
-    for sector in case.image.chunks_exact(SECTOR_BYTES) {
-        met.extend(branches_of_sector(sector));
-    }
-    met.extend(match case.operation {
+    let mut met = match case.operation {
         Operation::Recover => branches_of_recovery(case),
         Operation::Reclaim => branches_of_reclaim(case),
         Operation::ItemReader => branches_of_reader(case),
         Operation::Listing => branches_of_listing(case),
-    });
+    };
+    if met.is_disjoint(&BTreeSet::from(REFUSED_UNREAD)) {
+        for sector in case.image.chunks_exact(SECTOR_BYTES) {
+            met.extend(branches_of_sector(sector));
+        }
+    }
     met
 }
+
+const REFUSED_UNREAD: [Branch; 5] = [
+    Branch::RecoveryResult1,
+    Branch::RecoveryResult2,
+    Branch::ReclaimResult1,
+    Branch::ReaderResult1,
+    Branch::ListingResult1,
+];
 
 fn branches_of_sector(sector: &[u8]) -> Branches {
     let mut met = Branches::new();
@@ -79,17 +89,39 @@ fn branches_of_page(sector: &[u8]) -> Branches {
         (empty == all, Branch::PageAllEmpty),
     ];
     met.extend(held(&conditions));
+    met.extend(branches_of_walk(sector));
+    met
+}
+
+fn branches_of_walk(sector: &[u8]) -> Branches {
+    let mut met = Branches::new();
+    let mut unknown_until = 0;
+    let mut entry = 0;
     for here in walk(sector) {
+        let span = sector[64 + ENTRY_BYTES * entry + 2] as usize;
+        let too_long_before = met.contains(&Branch::WalkSpanTooLong);
         match here {
             Met::NotWritten(EntryState::Erased) => met.extend([Branch::WalkErased]),
             Met::NotWritten(EntryState::Illegal) => met.extend([Branch::WalkIllegal]),
             Met::NotWritten(_) => met.extend([Branch::WalkEmpty]),
             Met::WrongCrc => met.extend([Branch::WalkWrongCrc]),
-            Met::UnknownType => met.extend([Branch::WalkUnknownType]),
+            Met::UnknownType => {
+                met.extend([Branch::WalkUnknownType]);
+                unknown_until = entry + span;
+            }
             Met::SpanZero => met.extend([Branch::WalkSpanZero]),
-            Met::SpanTooLong => met.extend([Branch::WalkSpanTooLong]),
-            Met::Item(item) => met.extend(branches_of_item(sector, &item)),
+            Met::SpanTooLong => {
+                met.extend([Branch::WalkSpanTooLong]);
+                met.extend((entry + span == ENTRIES + 1).then_some(Branch::WalkSpanJustTooLong));
+            }
+            Met::Item(item) => {
+                met.extend(branches_of_item(sector, &item));
+                met.extend((entry < unknown_until).then_some(Branch::WalkItemInUnknownSpan));
+                met.extend(too_long_before.then_some(Branch::WalkItemAfterSpanTooLong));
+                entry += item.span() - 1;
+            }
         }
+        entry += 1;
     }
     met
 }
@@ -100,8 +132,18 @@ fn held(conditions: &[(bool, Branch)]) -> Branches {
 
 /// In the order of KNOWN_TYPES.
 const TYPE_BRANCHES: [Branch; 12] = [
-    Branch::Type01, Branch::Type02, Branch::Type04, Branch::Type08, Branch::Type11, Branch::Type12,
-    Branch::Type14, Branch::Type18, Branch::Type21, Branch::Type41, Branch::Type42, Branch::Type48,
+    Branch::Type01,
+    Branch::Type02,
+    Branch::Type04,
+    Branch::Type08,
+    Branch::Type11,
+    Branch::Type12,
+    Branch::Type14,
+    Branch::Type18,
+    Branch::Type21,
+    Branch::Type41,
+    Branch::Type42,
+    Branch::Type48,
 ];
 
 fn branches_of_item(sector: &[u8], item: &Item) -> Branches {
@@ -122,10 +164,6 @@ fn branches_of_item(sector: &[u8], item: &Item) -> Branches {
 fn branches_of_recovery(case: &Case) -> Branches {
     let outcome = recover(&case.image, case.allowance, &mut vec![None; case.records as usize]);
     let sectors = case.image.len() / SECTOR_BYTES;
-    let made = &outcome.list[..outcome.steps];
-    let finish_begun = made.iter().any(|tagged| matches!(tagged.stage, Stage::Finish { .. }));
-    let stopped = outcome.stopped_in();
-    let in_order = stopped == Some(Stage::ActiveOrder);
     let ended = outcome.result == 0;
     let conditions = [
         (ended, Branch::RecoveryResult0),
@@ -133,16 +171,64 @@ fn branches_of_recovery(case: &Case) -> Branches {
         (outcome.result == 2, Branch::RecoveryResult2),
         (outcome.result == 6, Branch::RecoveryResult6),
         (outcome.result == 7, Branch::RecoveryResult7),
-        (in_order && !finish_begun, Branch::RecoveryStopped1),
-        (in_order && finish_begun, Branch::RecoveryStopped1Again),
-        (matches!(stopped, Some(Stage::Finish { .. })), Branch::RecoveryStopped2),
-        (stopped == Some(Stage::Blobs), Branch::RecoveryStopped3),
-        (stopped == Some(Stage::Duplicates), Branch::RecoveryStopped4),
         (ended && outcome.steps > 0 && fits(&outcome, case), Branch::RecoveryFitsExactly),
         (ended && case.allowance == 0, Branch::RecoveryAllowance0),
         (ended && case.records as usize > sectors, Branch::RecoveryRecordsPast),
     ];
-    &outcome.branches | &held(&conditions)
+    let mut met = held(&conditions);
+    if outcome.result == 7 {
+        met.extend(branches_of_stage(&outcome));
+        met.extend(branches_of_stop(case, &outcome));
+    }
+    &met | &outcome.branches
+}
+
+/// The stage in which a recovery stopped.
+fn branches_of_stage(outcome: &Outcome) -> Branches {
+    let made = &outcome.list[..outcome.steps];
+    let finish_begun = made.iter().any(|tagged| matches!(tagged.stage, Stage::Finish { .. }));
+    BTreeSet::from([match outcome.stopped_in() {
+        Some(Stage::ActiveOrder) if finish_begun => Branch::RecoveryStopped1Again,
+        Some(Stage::ActiveOrder) => Branch::RecoveryStopped1,
+        Some(Stage::Finish { .. }) => Branch::RecoveryStopped2,
+        Some(Stage::Blobs) => Branch::RecoveryStopped3,
+        _ => Branch::RecoveryStopped4,
+    }])
+}
+
+/// Between which two steps a call stopped: this alone shows their order.
+fn branches_of_stop(case: &Case, outcome: &Outcome) -> Branches {
+    let next = outcome.list[outcome.steps];
+    let last = outcome.steps.checked_sub(1).map(|place| outcome.list[place]);
+    let Some(TaggedStep { stage, step: Step::Program { sector, word, .. } }) = last else {
+        return Branches::new();
+    };
+    let Step::Program { sector: next_sector, word: next_word, .. } = next.step else {
+        return Branches::new();
+    };
+    let of_stage = |wanted: Stage| stage == wanted && next.stage == wanted;
+    let descends = sector == next_sector && word == next_word + 1;
+    let keeps = kept_sector(&case.image) == Some(next_sector);
+    let marks = of_stage(Stage::ActiveOrder);
+    held(&[
+        ((1..8).contains(&word), Branch::StoppedInInitialise),
+        (word >= 16 && next_word >= 16, Branch::StoppedInCopy),
+        (word >= 16 && next_word < 16, Branch::StoppedBeforeStates),
+        (marks && !keeps && sector > next_sector, Branch::RecoveryStoppedAmongMarks),
+        (marks && keeps, Branch::RecoveryStoppedBeforeKept),
+        (of_stage(Stage::Blobs) && descends, Branch::RecoveryStoppedInErasure),
+        (of_stage(Stage::Blobs) && !descends, Branch::RecoveryStoppedBetween3),
+        (of_stage(Stage::Duplicates) && !descends, Branch::RecoveryStoppedBetween4),
+        (next.stage == Stage::Duplicates && next_word == 0, Branch::RecoveryStoppedBeforeFull),
+    ])
+}
+
+/// The sector of the Active page that stage 1 keeps.
+fn kept_sector(image: &[u8]) -> Option<usize> {
+    let pages = scan(image).pages;
+    let active = || pages.iter().filter(|page| page.state == State::Active);
+    let sequence = greatest(active())?;
+    active().find(|page| page.sequence == sequence).map(|page| page.sector)
 }
 
 fn fits(outcome: &Outcome, case: &Case) -> bool {
@@ -163,7 +249,11 @@ fn branches_of_reclaim(case: &Case) -> Branches {
         (outcome.result == 8, Branch::ReclaimResult8),
         (ended && fits(&outcome, case), Branch::ReclaimFitsExactly),
     ];
-    &outcome.branches | &held(&conditions)
+    let mut met = held(&conditions);
+    if outcome.result == 7 {
+        met.extend(branches_of_stop(case, &outcome));
+    }
+    &met | &outcome.branches
 }
 
 fn branches_of_reader(case: &Case) -> Branches {

@@ -2,11 +2,11 @@
 
 use crate::draw_page::{draw_corrupt, draw_draft, Draft};
 use crate::draw_pieces::{draw_pieces, Piece};
-use crate::items::items;
+use crate::items::{items, Item};
 use crate::random::Random;
 use crate::reclaim::reclaim;
 use crate::recover::recover;
-use crate::sector::{free, EntryState, State, ENTRIES, ENTRY_BYTES, SECTOR_BYTES};
+use crate::sector::{free, sequence, state, EntryState, State, ENTRIES, ENTRY_BYTES, SECTOR_BYTES};
 use crate::steps::{sector_of, sector_of_mut, Step, TaggedStep};
 use crate::writing::blank_sector;
 
@@ -47,11 +47,8 @@ fn draw_states(random: &mut Random, sectors: usize, without_active: bool) -> Vec
     states
 }
 
+/// Distinct ones near a base, equal ones, steps of ten (for equal points), extremes, any.
 fn draw_sequences(random: &mut Random, sectors: usize) -> Vec<u32> {
-    const EXTREMES: [u32; 12] = [
-        0, 1, 0xFFFF_FFEF, 0xFFFF_FFF0, 0xFFFF_FFF1, 0xFFFF_FFF9, 0xFFFF_FFFA, 0xFFFF_FFFB,
-        0xFFFF_FFFC, 0xFFFF_FFFD, 0xFFFF_FFFE, 0xFFFF_FFFF,
-    ];
     let base = random.choose(&[0, 1, 2, 7, 0x1000, 0xFFFF_FFE0]);
     let mode = random.below(16);
     let mut sequences: Vec<u32> = (0..sectors as u32).map(|sector| base + sector).collect();
@@ -60,8 +57,10 @@ fn draw_sequences(random: &mut Random, sectors: usize) -> Vec<u32> {
         match mode {
             0..=3 => *sequence = base + random.below(3) as u32,
             4 | 5 => *sequence = base + 10 * random.below(3) as u32,
-            6 => *sequence = random.choose(&EXTREMES),
-            7 => *sequence = random.next() as u32,
+            6 => *sequence = random.choose(&[0, 1, 0xFFFF_FFEF, 0xFFFF_FFFD, u32::MAX - 1, u32::MAX]),
+            7 => *sequence = u32::MAX - random.below(7) as u32,
+            8 => *sequence = random.next() as u32,
+            9 => *sequence = random.choose(&[0, 1, 0xFFFF_FFFB, 0xFFFF_FFFC, 0xFFFF_FFFD]),
             _ => {}
         }
     }
@@ -80,23 +79,40 @@ fn place_pieces(random: &mut Random, drafts: &mut [Draft], pieces: &[Piece]) {
     }
 }
 
-/// A page beside a Freeing source that has its items: all, some, one changed, one more, in any order.
-fn draw_twin(random: &mut Random, source: &[u8], twin: &mut Draft) {
-    let mut pieces: Vec<Piece> = Vec::new();
-    for item in items(source) {
+/// The items of a page, whole.
+fn pieces_of(page: &[u8]) -> Vec<Piece> {
+    let whole = |item: Item| {
         let payload = 64 + ENTRY_BYTES * (item.entry + 1);
         let end = payload + ENTRY_BYTES * (item.span() - 1);
-        pieces.push(Piece { header: item.header, payload: source[payload..end].to_vec() });
+        Piece { header: item.header, payload: page[payload..end].to_vec() }
+    };
+    items(page).into_iter().map(whole).collect()
+}
+
+/// Makes a page from another: often an Active or Full one beside a Freeing source, of a sequence near to it.
+fn draw_twin(random: &mut Random, source: &mut Draft, twin: &mut Draft) {
+    if random.once_in(2) {
+        let old = sequence(&source.sector);
+        let new = random.choose(&[old, old.saturating_add(1), sequence(&twin.sector)]);
+        source.take_header(State::Freeing, old);
+        twin.take_header(random.choose(&[State::Active, State::Active, State::Full]), new);
+    } else {
+        twin.take_header(state(&twin.sector), sequence(&source.sector));
     }
-    match random.below(8) {
+    place_twin(random, &source.sector, twin);
+}
+
+/// Lays on a page the items of another: all, some, one changed, one more, one twice, of the other start, in
+/// any order.
+fn place_twin(random: &mut Random, source: &[u8], twin: &mut Draft) {
+    let mut pieces = pieces_of(source);
+    match random.below(9) {
         0 => random.shuffle(&mut pieces),
         1 | 2 => pieces.truncate(random.below(pieces.len() + 1)),
         3 => pieces.extend(draw_pieces(random, 1)),
-        4 if !pieces.is_empty() => {
-            let header = &mut pieces[0].header;
-            header[24] ^= 1;
-            crate::writing::mend_crc(header);
-        }
+        4 if !pieces.is_empty() => pieces[0].change(|header| header[24] ^= 1),
+        5 if !pieces.is_empty() => pieces.push(pieces[0].clone()),
+        6 | 7 => pieces.iter_mut().for_each(Piece::take_other_start),
         _ => {}
     }
     for piece in &pieces {
@@ -104,54 +120,69 @@ fn draw_twin(random: &mut Random, source: &[u8], twin: &mut Draft) {
     }
 }
 
-/// All pages of an image; where two states allow it, now and then one page is drawn from another.
-fn draw_sectors(random: &mut Random, states: &[State], sequences: &[u32]) -> Vec<u8> {
-    let mut drafts: Vec<Draft> = states
-        .iter()
-        .zip(sequences)
-        .filter(|(state, _)| !free(**state))
-        .map(|(state, sequence)| draw_draft(random, *state, *sequence))
-        .collect();
-    let twins = drafts.len() >= 2 && random.once_in(4);
-    let laid = if twins { drafts.len() - 1 } else { drafts.len() };
+/// The pages of an image, in sector order; now and then the last one is drawn from another.
+fn draw_pages(random: &mut Random, states: &[State], sequences: &[u32]) -> Vec<Draft> {
+    let pages = states.iter().zip(sequences).filter(|(state, _)| !free(**state));
+    let mut drafts: Vec<Draft> =
+        pages.map(|(state, sequence)| draw_draft(random, *state, *sequence)).collect();
+    let twins = drafts.len() >= 2 && random.once_in(3);
+    let laid = drafts.len() - usize::from(twins);
     if laid > 0 {
         let pieces = draw_pieces(random, 3 + 3 * laid.min(5));
         place_pieces(random, &mut drafts[..laid], &pieces);
     }
     if twins {
-        let source = drafts[random.below(laid)].sector.clone();
-        draw_twin(random, &source, &mut drafts[laid]);
+        let (sources, twin) = drafts.split_at_mut(laid);
+        let source = random.below(laid);
+        draw_twin(random, &mut sources[source], &mut twin[0]);
+    }
+    drafts
+}
+
+/// Erased counts that make the points of all pages equal, where their sequences lie ten apart.
+fn even_points(drafts: &mut [Draft]) {
+    let Some(least) = drafts.iter().map(|draft| sequence(&draft.sector)).min() else { return };
+    for draft in drafts {
+        let tens = (sequence(&draft.sector) - least) / 10;
+        draft.have_erased(1 + tens.min(20) as usize);
+    }
+}
+
+fn draw_sectors(random: &mut Random, states: &[State], sequences: &[u32]) -> Vec<u8> {
+    let mut drafts = draw_pages(random, states, sequences);
+    drafts.iter_mut().for_each(|draft| draft.draw_rest(random));
+    match random.below(32) {
+        0 | 1 => even_points(&mut drafts),
+        2 => drafts.iter_mut().for_each(Draft::have_all_written),
+        _ => {}
     }
     let mut drafts = drafts.into_iter();
     let mut image = Vec::new();
     for (state, sequence) in states.iter().zip(sequences) {
-        match state {
-            State::Blank => image.extend(blank_sector()),
-            State::Corrupt => image.extend(draw_corrupt(random, *sequence)),
-            _ => {
-                let mut draft = drafts.next().expect("a draft for each page");
-                draft.draw_rest(random);
-                image.extend(draft.sector);
-            }
-        }
+        image.extend(match state {
+            State::Blank => blank_sector(),
+            State::Corrupt => draw_corrupt(random, *sequence),
+            _ => drafts.next().expect("a draft for each page").sector,
+        });
     }
     image
 }
 
-/// An allowance: all, none, about the list's length, about a change of stage or an erased sector, any.
+/// An allowance: past 32 bits, none, about the list's length, about a change of stage, a mark or an
+/// erased sector, any.
 pub fn draw_allowance(random: &mut Random, list: &[TaggedStep]) -> u64 {
     let length = list.len() as u64;
     let turning = |place: &usize| {
-        let erases = matches!(list[*place].step, Step::Erase { .. });
-        erases || list[*place].stage != list[place - 1].stage
+        let weighty = matches!(list[*place].step, Step::Erase { .. } | Step::Program { word: 0, .. });
+        weighty || list[*place].stage != list[place - 1].stage
     };
     match random.below(16) {
-        0..=4 => u64::MAX,
-        5 => length,
-        6 => length.saturating_sub(1),
-        7 => length + 1,
-        8 => random.below(2) as u64,
-        9..=12 => {
+        0..=3 => random.choose(&[u64::MAX, u64::MAX, 1 << 32, (1 << 32) + 1, 1 << 63]),
+        4 => length,
+        5 => length.saturating_sub(1),
+        6 => length + 1,
+        7 => random.below(2) as u64,
+        8..=12 => {
             let turns: Vec<usize> = (1..list.len()).filter(turning).collect();
             let turn = if turns.is_empty() { 0 } else { random.choose(&turns) };
             (turn + random.below(3)).saturating_sub(1) as u64

@@ -4,11 +4,9 @@ use crate::draw_pieces::Piece;
 use crate::items::CHUNK;
 use crate::random::Random;
 use crate::sector::{
-    page_header, EntryState, State, ACTIVE_WORD, ENTRIES, FREEING_WORD, FULL_WORD, SECTOR_BYTES,
+    page_header, version, EntryState, State, ACTIVE_WORD, ENTRIES, FREEING_WORD, FULL_WORD, SECTOR_BYTES,
 };
-use crate::writing::{
-    blank_sector, chunk_data, empty_page, key_of, set_entry, set_entry_state, Fields,
-};
+use crate::writing::{blank_sector, chunk_data, empty_page, key_of, set_entry, set_entry_state, Fields};
 
 const ENTRY_STATES: [EntryState; 4] =
     [EntryState::Erased, EntryState::Illegal, EntryState::Written, EntryState::Empty];
@@ -73,6 +71,24 @@ pub fn draw_corrupt(random: &mut Random, sequence: u32) -> Vec<u8> {
 }
 
 impl Draft {
+    pub fn take_header(&mut self, state: State, sequence: u32) {
+        let header = page_header(state_word(state), sequence, version(&self.sector));
+        self.sector[..32].copy_from_slice(&header);
+    }
+
+    /// All 126 Written, whatever lies there.
+    pub fn have_all_written(&mut self) {
+        self.sector[32..64].fill(0xAA);
+    }
+
+    /// Exactly so many Erased entries, then a Written one, the rest Empty.
+    pub fn have_erased(&mut self, count: usize) {
+        self.next = 0;
+        self.leave(count, EntryState::Erased);
+        self.leave(1, EntryState::Written);
+        self.leave(ENTRIES, EntryState::Empty);
+    }
+
     /// False where there is no room.
     pub fn place(&mut self, random: &mut Random, piece: &Piece) -> bool {
         let end = self.next + piece.entries();
@@ -128,14 +144,14 @@ impl Draft {
                 self.leave(ENTRIES, EntryState::Written);
             }
             9 | 10 => self.place_last(random, rest),
-            11 if random.once_in(2) => self.sector[32..64].fill(0),
+            11 => self.sector[32..64].fill(0),
             12 if random.once_in(4) => random.fill(&mut self.sector[32..64]),
             _ => {}
         }
     }
 
     /// An item to the end of the page with a payload that was never marked: once it is erased, the page has
-    /// no Empty entry left.
+    /// no Empty entry left. Now and then it is one entry too long.
     fn place_last(&mut self, random: &mut Random, rest: usize) {
         if rest < 2 {
             return;
@@ -143,7 +159,7 @@ impl Draft {
         let fields = Fields {
             namespace: random.choose(&[1, 1, 2]),
             kind: random.choose(&[CHUNK, 0x01, 0x21]),
-            span: rest as u8,
+            span: (rest + usize::from(random.once_in(5))) as u8,
             chunk_index: random.choose(&[0, 0x80, 0xFF]),
             key: random.choose(&[key_of("a"), key_of("b")]),
             data: chunk_data(random.below(3) as u16),

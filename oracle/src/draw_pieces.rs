@@ -16,6 +16,21 @@ impl Piece {
     pub fn entries(&self) -> usize {
         1 + self.payload.len() / ENTRY_BYTES
     }
+
+    /// Changes the header and mends its CRC.
+    pub fn change(&mut self, how: impl FnOnce(&mut [u8; ENTRY_BYTES])) {
+        how(&mut self.header);
+        mend_crc(&mut self.header);
+    }
+
+    /// A part of a blob becomes one of the other start.
+    pub fn take_other_start(&mut self) {
+        match self.header[1] {
+            CHUNK => self.change(|header| header[3] ^= 0x80),
+            BLOB_INDEX => self.change(|header| header[29] ^= 0x80),
+            _ => {}
+        }
+    }
 }
 
 /// The names that an image draws from.
@@ -102,7 +117,8 @@ fn draw_version(random: &mut Random, names: &Names, name: (u8, Key), start: u8) 
     let mut parts = Vec::new();
     for chunk in 0..count {
         let chunk_index = start_of_byte(start) + chunk;
-        let chunk_index = if random.once_in(8) { chunk_index ^ (random.byte() & 0x7F) } else { chunk_index };
+        let chunk_index =
+            if random.once_in(8) { chunk_index ^ (random.byte() & 0x7F) } else { chunk_index };
         parts.push(draw_chunk(random, namespace, key, chunk_index));
     }
     let size = parts.iter().map(|chunk| u32::from(chunk.data[0]) | u32::from(chunk.data[1]) << 8).sum();
@@ -144,13 +160,12 @@ fn draw_blob(random: &mut Random, names: &Names) -> Vec<Piece> {
 /// The same name again, with another type, other data or other chunk index, or all alike.
 fn draw_again(random: &mut Random, piece: &Piece) -> Piece {
     let mut again = piece.clone();
-    match random.below(4) {
-        0 => again.header[1] = random.choose(&KNOWN_TYPES),
-        1 => again.header[24 + random.below(8)] = random.byte(),
-        2 => again.header[3] = random.byte(),
+    again.change(|header| match random.below(4) {
+        0 => header[1] = random.choose(&KNOWN_TYPES),
+        1 => header[24 + random.below(8)] = random.byte(),
+        2 => header[3] = random.byte(),
         _ => {}
-    }
-    mend_crc(&mut again.header);
+    });
     again
 }
 
@@ -160,17 +175,11 @@ fn spoil(random: &mut Random, piece: &mut Piece) {
         0 => piece.header[4 + random.below(4)] ^= 1 << random.below(8),
         1 => piece.header[random.below(ENTRY_BYTES)] ^= 1 << random.below(8),
         2 => {
-            piece.header[1] = random.choose(&[0x00, 0x03, 0x09, 0x10, 0x22, 0x40, 0x43, 0x49, 0xFF]);
-            mend_crc(&mut piece.header);
+            let unknown = random.choose(&[0x00, 0x03, 0x09, 0x10, 0x22, 0x40, 0x43, 0x49, 0xFF]);
+            piece.change(|header| header[1] = unknown);
         }
-        3 => {
-            piece.header[2] = 0;
-            mend_crc(&mut piece.header);
-        }
-        _ => {
-            piece.header[2] = (ENTRIES + random.below(130)) as u8;
-            mend_crc(&mut piece.header);
-        }
+        3 => piece.change(|header| header[2] = 0),
+        _ => piece.change(|header| header[2] = (ENTRIES + random.below(130)) as u8),
     }
 }
 

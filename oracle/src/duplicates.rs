@@ -4,12 +4,13 @@ use std::collections::{BTreeMap, BTreeSet};
 
 use crate::branch::Branch;
 use crate::items::Key;
+use crate::notes;
 use crate::scan::{Found, Page};
 use crate::sector::{state, total, EntryState, State};
 use crate::steps::{Run, Stage};
 
 /// "Items left that are not chunks and not of namespace 0, grouped by namespace and key, groups ascending".
-fn groups(found: &[Found]) -> BTreeMap<(u8, Key), Vec<&Found>> {
+pub fn groups(found: &[Found]) -> BTreeMap<(u8, Key), Vec<&Found>> {
     let mut groups: BTreeMap<(u8, Key), Vec<&Found>> = BTreeMap::new();
     for item in found.iter().filter(|item| !item.item.is_chunk() && item.item.namespace() != 0) {
         groups.entry((item.item.namespace(), item.item.key())).or_default().push(item);
@@ -18,21 +19,13 @@ fn groups(found: &[Found]) -> BTreeMap<(u8, Key), Vec<&Found>> {
 }
 
 /// The chunks of a blob index's version, in list order, then entry order.
-fn chunks_of<'a>(found: &'a [Found], index: &Found) -> Vec<&'a Found> {
+pub fn chunks_of<'a>(found: &'a [Found], index: &Found) -> Vec<&'a Found> {
     let name = |part: &Found| (part.item.namespace(), part.item.key(), part.item.start());
     found.iter().filter(|part| part.item.is_chunk() && name(part) == name(index)).collect()
 }
 
-/// "A blob index takes its version's chunks with it, unless the kept item is an index of the same start."
-/// And "no item is erased twice in a stage".
-fn erase_chunks(
-    run: &mut Run,
-    found: &[Found],
-    index: &Found,
-    erased: &mut BTreeSet<(usize, usize)>,
-) {
-    let chunks = chunks_of(found, index);
-    run.met_if(chunks.is_empty(), Branch::DuplicateIndexWithoutChunks);
+/// "no item is erased twice in a stage": two old indices of a version have the same chunks.
+fn erase_chunks(run: &mut Run, chunks: &[&Found], erased: &mut BTreeSet<(usize, usize)>) {
     for chunk in chunks {
         if erased.insert((chunk.sector, chunk.item.entry)) {
             run.met(Branch::DuplicateIndexTakesChunks);
@@ -43,33 +36,19 @@ fn erase_chunks(
     }
 }
 
-fn note_old(run: &mut Run, old: &Found, kept: &Found) {
-    run.met_if(old.ties_with(kept), Branch::DuplicateByList);
-    run.met_if(old.sequence == kept.sequence && !old.ties_with(kept), Branch::DuplicateByEntry);
-    run.met_if(old.sequence != kept.sequence, Branch::DuplicateBySequence);
-    run.met_if(old.item.kind() != kept.item.kind(), Branch::DuplicateTypesDiffer);
-    if old.item.is_blob_index() {
-        run.met_if(old.item.span() > 1, Branch::DuplicateIndexOfLongSpan);
-        run.met(match (kept.item.is_blob_index(), kept.item.start() == old.item.start()) {
-            (true, true) => Branch::DuplicateKeptIndexSameStart,
-            (true, false) => Branch::DuplicateKeptIndexOtherStart,
-            (false, _) => Branch::DuplicateKeptNoIndex,
-        });
-    }
-}
-
-/// "all but the newest are erased, oldest first"
+/// "all but the newest are erased, oldest first. A blob index takes its version's chunks with it, unless
+/// the kept item is an index of the same start."
 fn erase_old(run: &mut Run, found: &[Found], mut group: Vec<&Found>) {
     group.sort_by_key(|item| item.newness());
     let (kept, old) = group.split_last().expect("a group has an item");
     run.met_if(old.len() > 1, Branch::DuplicateSeveralOld);
     let mut erased = BTreeSet::new();
     for old in old {
-        note_old(run, old, kept);
+        notes::duplicate(run, found, old, kept);
         run.erase_entries(old.sector, old.item.entry, old.item.span());
         let kept_has_same_start = kept.item.is_blob_index() && kept.item.start() == old.item.start();
         if old.item.is_blob_index() && !kept_has_same_start {
-            erase_chunks(run, found, old, &mut erased);
+            erase_chunks(run, &chunks_of(found, old), &mut erased);
         }
     }
 }
@@ -89,7 +68,7 @@ fn mark_filled(run: &mut Run, pages: &[Page]) {
 pub fn duplicates(run: &mut Run, found: &[Found], pages: &[Page]) {
     run.stage = Stage::Duplicates;
     let groups = groups(found);
-    run.met_if(groups.values().all(|group| group.len() == 1), Branch::DuplicateNone);
+    notes::groups(run, &groups);
     for group in groups.into_values() {
         erase_old(run, found, group);
     }

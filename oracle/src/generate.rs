@@ -7,8 +7,7 @@ use crate::reclaim::reclaim;
 use crate::recover::recover;
 use crate::sector::SECTOR_BYTES;
 
-const ODD_LENGTHS: [usize; 11] =
-    [0, 1, 4095, 4096, 4097, 8191, 8192, 65536, 65537, 69632, 131072];
+const ODD_LENGTHS: [usize; 11] = [0, 1, 4095, 4096, 4097, 8191, 8192, 65536, 65537, 69632, 131072];
 
 /// Cuts the image short, or lengthens it by ones or by anything.
 fn draw_length(random: &mut Random, image: &mut Vec<u8>) {
@@ -34,10 +33,18 @@ fn draw_records(random: &mut Random, sectors: usize) -> u32 {
     records.min(32) as u32
 }
 
+/// Recovery and reclaim have more to be wrong about: the others are drawn half as often.
+fn draw_operation(random: &mut Random, operations: &[Operation]) -> Operation {
+    match random.choose(operations) {
+        Operation::ItemReader | Operation::Listing if random.once_in(2) => random.choose(operations),
+        operation => operation,
+    }
+}
+
 /// The case of a number: it depends on nothing but the seed, the number and the operations.
 pub fn case_of(seed: u64, number: u64, operations: &[Operation]) -> Case {
     let mut random = Random::of_case(seed, number);
-    let operation = random.choose(operations);
+    let operation = draw_operation(&mut random, operations);
     let mut image = if operation == Operation::ItemReader {
         draw_one_sector(&mut random)
     } else {

@@ -1,9 +1,7 @@
 //! Entries, the item walk and the item reader.
 
 use crate::crc::crc;
-use crate::sector::{
-    entry_state, free, number, state, EntryState, ENTRIES, ENTRY_BYTES, SECTOR_BYTES,
-};
+use crate::sector::{entry_state, free, number, state, EntryState, ENTRIES, ENTRY_BYTES, SECTOR_BYTES};
 
 pub const CHUNK: u8 = 0x42;
 pub const BLOB_INDEX: u8 = 0x48;

@@ -14,7 +14,9 @@ fn line(sector: usize, record: &Record) -> String {
         State::Full => "full",
         State::Freeing => "freeing",
     };
-    format!("{sector} {word} {sequence} written {written} erased {erased} empty {empty} illegal {illegal}\n")
+    format!(
+        "{sector} {word} {sequence} written {written} erased {erased} empty {empty} illegal {illegal}\n"
+    )
 }
 
 /// "The listing program recovers its image with an allowance that no list reaches, then lists the

@@ -16,13 +16,18 @@ mod finish;
 mod generate;
 mod items;
 mod listing;
+mod named;
+mod notes;
 mod protocol;
 mod random;
 mod reclaim;
 mod recover;
+mod sample;
 mod scan;
 mod sector;
 mod steps;
+#[cfg(test)]
+mod tests;
 mod writing;
 
 use std::error::Error;
@@ -35,7 +40,8 @@ const USAGE: &str = "oracle answer < cases > answers
 oracle check CASES ANSWERS
 oracle generate COUNT SEED [--ops 0,1,2,3] > cases
 oracle cover COUNT SEED [--ops 0,1,2,3]
-oracle compare PROGRAM COUNT SEED [--ops 0,1,2,3]";
+oracle compare PROGRAM COUNT SEED [--ops 0,1,2,3]
+oracle sample 0,1,2,3 > cases";
 
 /// "0,2" and the like: the operations by their numbers in the batch protocol.
 fn operations_of(text: &str) -> Result<Vec<Operation>, Box<dyn Error>> {
@@ -92,6 +98,7 @@ fn run(mut arguments: Vec<String>) -> Result<bool, Box<dyn Error>> {
         ["compare", program, count, seed] => {
             return Ok(compare::compare(program, count.parse()?, seed.parse()?, &operations)?)
         }
+        ["sample", list] => write_cases(operations_of(list)?.into_iter().flat_map(sample::sample))?,
         _ => return Err(USAGE.into()),
     }
     Ok(true)

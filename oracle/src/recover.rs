@@ -5,25 +5,28 @@ use crate::blobs::blobs;
 use crate::branch::Branch;
 use crate::duplicates::duplicates;
 use crate::finish::finish;
+use crate::notes;
 use crate::scan::{found, greatest, scan, whole_sectors, Lists};
-use crate::sector::{record, state, Record, State, SECTOR_BYTES};
+use crate::sector::{record, Record, State, SECTOR_BYTES};
 use crate::steps::{call, Outcome, Run, Stage};
 
 /// "recovery: k Freeing pages, k above 0, greatest sequence above 0xFFFFFFFE - k"
-fn sequences_run_out(lists: &Lists) -> bool {
+pub fn sequences_run_out(lists: &Lists) -> bool {
     let freeing = lists.pages.iter().filter(|page| page.state == State::Freeing).count() as u32;
     freeing > 0 && greatest(&lists.pages).is_some_and(|greatest| greatest > 0xFFFF_FFFE - freeing)
 }
 
 /// "Order: recovery 1, 2, 6"
-fn refusal(image: &[u8], lent_records: usize) -> Option<u8> {
-    let Some(sectors) = whole_sectors(image) else {
+fn refusal(run: &mut Run, lent_records: usize) -> Option<u8> {
+    let Some(sectors) = whole_sectors(&run.image) else {
         return Some(1);
     };
+    let lists = scan(&run.image);
+    notes::sequences(run, &lists, lent_records < sectors);
     if lent_records < sectors {
         return Some(2);
     }
-    sequences_run_out(&scan(image)).then_some(6)
+    sequences_run_out(&lists).then_some(6)
 }
 
 /// "Recovery, in order". "Repeat until no page counts as Freeing; if there was one, scan again and do 1
@@ -32,16 +35,16 @@ fn stages(run: &mut Run) {
     let mut lists = scan(&run.image);
     active_order(run, &mut lists.pages);
     if finish(run, &mut lists) {
+        let finished = lists.pages;
         lists = scan(&run.image);
         run.met(Branch::OrderAgain);
         active_order(run, &mut lists.pages);
-        let freeing = lists.pages.iter().any(|page| state(run.sector(page.sector)) == State::Freeing);
-        run.met_if(freeing, Branch::FinishLeavesFreeing);
+        notes::order_again(run, &finished, &lists.pages);
     }
     let begun = found(&run.image, &lists.pages);
     blobs(run, &begun);
     let left = found(&run.image, &lists.pages);
-    run.met_if(left.iter().any(|item| !begun.contains(item)), Branch::DuplicatesUncoveredItem);
+    notes::uncovered(run, &begun, &left);
     duplicates(run, &left, &lists.pages);
     run.met_if(run.list.is_empty(), Branch::RecoveryWithoutStep);
 }
@@ -50,15 +53,14 @@ fn stages(run: &mut Run) {
 /// sector, in sector order, after recovery's last step", "Records past the sectors stay unchanged."
 pub fn recover(image: &[u8], allowance: u64, records: &mut [Option<Record>]) -> Outcome {
     let lent_records = records.len();
-    let outcome = call(image, allowance, Stage::ActiveOrder, |run| {
-        match refusal(&run.image, lent_records) {
-            Some(result) => Err(result),
-            None => {
-                stages(run);
-                Ok(())
-            }
+    let rules = |run: &mut Run| {
+        if let Some(result) = refusal(run, lent_records) {
+            return Err(result);
         }
-    });
+        stages(run);
+        Ok(())
+    };
+    let outcome = call(image, allowance, Stage::ActiveOrder, rules);
     if outcome.result == 0 {
         for (place, sector) in records.iter_mut().zip(outcome.image.chunks(SECTOR_BYTES)) {
             *place = Some(record(sector));

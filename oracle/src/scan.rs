@@ -19,7 +19,7 @@ pub struct Lists {
 /// "image not 2 to 16 whole sectors"
 pub fn whole_sectors(image: &[u8]) -> Option<usize> {
     let sectors = image.len() / SECTOR_BYTES;
-    (image.len() % SECTOR_BYTES == 0 && (2..=16).contains(&sectors)).then_some(sectors)
+    (image.len().is_multiple_of(SECTOR_BYTES) && (2..=16).contains(&sectors)).then_some(sectors)
 }
 
 /// "Page list: sectors ascending. Free list the same".

@@ -1,6 +1,6 @@
 //! The flash model: steps, the list that a call's rules give, and the allowance.
 
-use std::collections::BTreeSet;
+use std::collections::{BTreeMap, BTreeSet};
 
 use crate::branch::Branch;
 use crate::items::{items, Item};
@@ -82,7 +82,8 @@ pub struct Run {
     pub image: Vec<u8>,
     pub list: Vec<TaggedStep>,
     pub stage: Stage,
-    pub branches: BTreeSet<Branch>,
+    /// Each branch met, with the number of steps before it.
+    branches: BTreeMap<Branch, usize>,
 }
 
 impl Run {
@@ -91,12 +92,18 @@ impl Run {
     }
 
     pub fn met(&mut self, branch: Branch) {
-        self.branches.insert(branch);
+        self.branches.entry(branch).or_insert(self.list.len());
     }
 
     pub fn met_if(&mut self, condition: bool, branch: Branch) {
         if condition {
             self.met(branch);
+        }
+    }
+
+    pub fn met_each(&mut self, conditions: &[(bool, Branch)]) {
+        for (condition, branch) in conditions {
+            self.met_if(*condition, *branch);
         }
     }
 
@@ -188,6 +195,7 @@ pub struct Outcome {
     pub list: Vec<TaggedStep>,
     pub steps: usize,
     pub image: Vec<u8>,
+    /// The branches that the call came to: those after which it made a step, all of them if it ended.
     pub branches: BTreeSet<Branch>,
 }
 
@@ -207,13 +215,16 @@ pub fn call(
     stage: Stage,
     rules: impl FnOnce(&mut Run) -> Result<(), u8>,
 ) -> Outcome {
-    let mut run = Run { image: image.to_vec(), list: Vec::new(), stage, branches: BTreeSet::new() };
+    let mut run = Run { image: image.to_vec(), list: Vec::new(), stage, branches: BTreeMap::new() };
     let refusal = rules(&mut run).err();
     let steps = run.list.len().min(usize::try_from(allowance).unwrap_or(usize::MAX));
     let mut image = image.to_vec();
     for tagged in &run.list[..steps] {
         apply(&mut image, tagged.step);
     }
-    let ended = if steps == run.list.len() { 0 } else { 7 };
-    Outcome { result: refusal.unwrap_or(ended), list: run.list, steps, image, branches: run.branches }
+    let ended = steps == run.list.len();
+    let come_to = run.branches.into_iter().filter(|(_, before)| ended || *before < steps);
+    let branches = come_to.map(|(branch, _)| branch).collect();
+    let result = refusal.unwrap_or(if ended { 0 } else { 7 });
+    Outcome { result, list: run.list, steps, image, branches }
 }

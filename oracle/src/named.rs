@@ -1,0 +1,86 @@
+//! The cases that document 01 names, each built by hand.
+
+use crate::protocol::{Case, Operation};
+use crate::sector::{EntryState, ACTIVE_WORD, FREEING_WORD, FULL_WORD};
+use crate::writing::{blank_sector, empty_page, key_of, set_entry, set_entry_state, Fields};
+
+/// A one-entry item of namespace 1 and type 0x01.
+pub fn number_item(key: &str, value: u8) -> Fields {
+    let data = [value, 0xFF, 0xFF, 0xFF, 0xFF, 0xFF, 0xFF, 0xFF];
+    Fields { namespace: 1, kind: 0x01, span: 1, chunk_index: 0xFF, key: key_of(key), data }
+}
+
+/// A page with these one-entry items from entry 0 on.
+pub fn page(state_word: u32, sequence: u32, items: &[Fields]) -> Vec<u8> {
+    let mut sector = empty_page(state_word, sequence, 0xFE);
+    for (entry, fields) in items.iter().enumerate() {
+        set_entry(&mut sector, entry, &fields.header());
+        set_entry_state(&mut sector, entry, EntryState::Written);
+    }
+    sector
+}
+
+/// "sector 0 Blank and sector 1 Full, sequence 7, three readable one-entry items of namespace 1, type 0x01
+/// and different keys, and two Erased entries"
+pub fn listing_example() -> Vec<u8> {
+    let items = [number_item("a", 1), number_item("b", 2), number_item("c", 3)];
+    let mut full = page(FULL_WORD, 7, &items);
+    set_entry_state(&mut full, 3, EntryState::Erased);
+    set_entry_state(&mut full, 4, EntryState::Erased);
+    [blank_sector(), full].concat()
+}
+
+/// Two Active pages of one sequence: the first is kept. The duplicate at one entry of both: the page later
+/// in the list after the change of places has the newer.
+pub fn equal_sequences() -> Vec<u8> {
+    let first = page(ACTIVE_WORD, 5, &[number_item("a", 1), number_item("b", 1)]);
+    let second = page(ACTIVE_WORD, 5, &[number_item("a", 2)]);
+    [first, second].concat()
+}
+
+/// Two Freeing pages and one free sector: the second is copied into what the first left.
+pub fn two_freeing_pages() -> Vec<u8> {
+    let first = page(FREEING_WORD, 3, &[number_item("a", 1)]);
+    let second = page(FREEING_WORD, 4, &[number_item("b", 2), number_item("c", 3)]);
+    [first, second, blank_sector()].concat()
+}
+
+/// An Active page that has an item the Freeing page has not: it stays.
+pub fn active_non_copy_beside_freeing() -> Vec<u8> {
+    let freeing = page(FREEING_WORD, 3, &[number_item("a", 1)]);
+    let active = page(ACTIVE_WORD, 4, &[number_item("a", 1), number_item("b", 2)]);
+    [freeing, active, blank_sector()].concat()
+}
+
+/// An image that is refused for its length, with a page in it where one fits.
+fn of_length(length: usize) -> Vec<u8> {
+    let mut image = page(FULL_WORD, 7, &[number_item("a", 1)]);
+    image.resize(length, 0xFF);
+    image
+}
+
+/// "Run: lengths 0, 4,095, 4,096, 8,192, 65,536, 69,632; equal sequences; two Freeing pages; an Active
+/// non-copy beside a Freeing page", and the listing example. Recovery is run at all these lengths (65,536 is
+/// that of a generated case, see sample.rs), the others at one wrong length each, to keep the sample small.
+fn named_images(operation: Operation) -> Vec<Vec<u8>> {
+    match operation {
+        Operation::Recover => vec![
+            of_length(0),
+            of_length(4095),
+            of_length(4096),
+            listing_example(),
+            equal_sequences(),
+            two_freeing_pages(),
+            active_non_copy_beside_freeing(),
+            of_length(69632),
+        ],
+        Operation::Reclaim => vec![of_length(4096)],
+        Operation::ItemReader => vec![of_length(0), of_length(4095)],
+        Operation::Listing => vec![of_length(4095), listing_example()],
+    }
+}
+
+pub fn named_cases(operation: Operation) -> Vec<Case> {
+    let case = |image| Case { operation, allowance: u64::MAX, records: 16, image };
+    named_images(operation).into_iter().map(case).collect()
+}

@@ -1,0 +1,286 @@
+//! What the coverage table wants to know of a rule beyond the way that it took: most of all, where another
+//! reading of its sentence would decide otherwise. Nothing here changes a step.
+
+use std::collections::BTreeMap;
+
+use crate::blobs::Version;
+use crate::branch::Branch;
+use crate::duplicates::chunks_of;
+use crate::finish::{holds_each, is_copy, newest_has_it_all};
+use crate::items::{items, Item, Key};
+use crate::reclaim::{most_points, Candidate};
+use crate::recover::sequences_run_out;
+use crate::scan::{greatest, Found, Lists, Page};
+use crate::sector::{blank, state, total, EntryState, State};
+use crate::steps::Run;
+
+/// Recovery's result 6 at its edges, and result 2 before it.
+pub fn sequences(run: &mut Run, lists: &Lists, too_few_records: bool) {
+    let freeing = lists.pages.iter().filter(|page| page.state == State::Freeing).count() as u64;
+    let sum = greatest(&lists.pages).map_or(0, |greatest| u64::from(greatest) + freeing);
+    run.met_if(too_few_records && sequences_run_out(lists), Branch::RecoveryResult2Before6);
+    run.met_if(!too_few_records && freeing == 0 && sum >= 0xFFFF_FFFE, Branch::RecoveryTopWithoutFreeing);
+    run.met_if(!too_few_records && freeing > 1 && sum == 0xFFFF_FFFE, Branch::RecoveryJustEnough);
+    run.met_if(!too_few_records && freeing > 1 && sum == 0xFFFF_FFFF, Branch::RecoveryJustTooMany);
+}
+
+/// Stage 1 done again, where the list that stage 2 left was another.
+pub fn order_again(run: &mut Run, finished: &[Page], again: &[Page]) {
+    let sectors = |pages: &[Page]| pages.iter().map(|page| page.sector).collect::<Vec<_>>();
+    let freeing = again.iter().any(|page| state(run.sector(page.sector)) == State::Freeing);
+    run.met_if(freeing, Branch::FinishLeavesFreeing);
+    run.met_if(run.list.is_empty() && sectors(finished) != sectors(again), Branch::OrderAgainWithoutStep);
+}
+
+pub fn source_taken(run: &mut Run, pages: &[Page], freeing: usize) {
+    let counts = |page: &&Page| page.state == State::Freeing;
+    let lowest = pages.iter().filter(counts).map(|page| page.sector).min();
+    run.met_if(freeing + 1 < pages.len(), Branch::FinishLastTakesPlace);
+    run.met_if(lowest != Some(pages[freeing].sector), Branch::FinishSourceOutOfOrder);
+}
+
+/// The Active page that is looked at beside a source.
+pub fn active_beside_source(run: &mut Run, pages: &[Page], on_active: &[Item], on_source: &[Item]) {
+    let copy = is_copy(on_active, on_source);
+    let last = pages.iter().rfind(|page| page.state == State::Active).expect("an Active page");
+    let last_is_copy = is_copy(&items(run.sector(last.sector)), on_source);
+    let without_namespace_0: Vec<Item> =
+        on_active.iter().filter(|item| item.namespace() != 0).copied().collect();
+    let conditions = [
+        (copy != last_is_copy, Branch::FinishFirstActiveDecides),
+        (!copy, Branch::FinishActiveNoCopy),
+        (!copy && is_copy(&without_namespace_0, on_source), Branch::FinishNamespace0Decides),
+        (!copy && holds_each(on_source, on_active), Branch::FinishNamesAlike),
+        (copy && on_active.is_empty(), Branch::FinishCopyWithoutItem),
+        (copy && !on_active.is_empty() && on_active.len() < on_source.len(), Branch::FinishCopyPartial),
+        (copy && !on_active.is_empty() && on_active.len() == on_source.len(), Branch::FinishCopyComplete),
+        (copy && on_active.len() > on_source.len(), Branch::FinishCopyWithMore),
+    ];
+    run.met_each(&conditions);
+}
+
+/// A copy just taken out of the list, about to be erased.
+pub fn copy_to_erase(run: &mut Run, lists: &Lists, copy: &Page, source: &Page) {
+    let greatest_left = greatest(lists.pages.iter().chain([source]));
+    let no_other_active = lists.pages.iter().all(|page| page.state != State::Active);
+    let conditions = [
+        (greatest_left < Some(copy.sequence), Branch::FinishCopyHadGreatest),
+        (lists.free.is_empty(), Branch::FinishOnlyCopyIsFree),
+        (
+            no_other_active && newest_has_it_all(run, &lists.pages, source),
+            Branch::FinishNewestNotAskedAfterCopy,
+        ),
+    ];
+    run.met_each(&conditions);
+}
+
+/// The newest page beside a source, where no page is Active.
+pub fn newest_beside_source(run: &mut Run, pages: &[Page], source: &Page) {
+    let Some(sequence) = greatest(pages) else {
+        return run.met(Branch::NewestNoPage);
+    };
+    let equals: Vec<&Page> = pages.iter().filter(|page| page.sequence == sequence).collect();
+    let (first, newest) = (equals[0], equals[equals.len() - 1]);
+    let on_source = items(run.sector(source.sector));
+    let holds = |page: &Page| holds_each(&items(run.sector(page.sector)), &on_source);
+    let newer = sequence > source.sequence;
+    let freeing = state(run.sector(newest.sector)) == State::Freeing;
+    let conditions = [
+        (!newer, Branch::NewestNotNewer),
+        (sequence == source.sequence && holds(newest), Branch::NewestEqualHoldsAll),
+        (newer && holds(first) != holds(newest), Branch::NewestLastAmongEqualsDecides),
+        (newer && holds(newest) && newest.state == State::Freeing, Branch::NewestIsFreeing),
+        (newer && freeing && newest.state == State::Full, Branch::NewestCountsAsFull),
+        (newer && holds(newest) && on_source.is_empty(), Branch::NewestHoldsNoItem),
+        (newer && holds(newest) && !on_source.is_empty(), Branch::NewestHoldsAll),
+        (newer && !holds(newest), Branch::NewestLacksItem),
+    ];
+    let on_newest = items(run.sector(newest.sector));
+    run.met_each(&conditions);
+    if newer {
+        names_held(run, &on_newest, &on_source);
+    }
+}
+
+/// Where more or less of an item's name would decide otherwise.
+fn names_held(run: &mut Run, on_newest: &[Item], on_source: &[Item]) {
+    let holds = holds_each(on_newest, on_source);
+    let held_by = |alike: &dyn Fn(&Item, &Item) -> bool| {
+        on_source.iter().all(|source| on_newest.iter().any(|held| alike(held, source)))
+    };
+    let without_namespace_0: Vec<Item> =
+        on_source.iter().filter(|item| item.namespace() != 0).copied().collect();
+    let of_type = held_by(&|held, source| holds_each(&[*held], &[*source]) && held.kind() == source.kind());
+    let of_key = held_by(&|a, b| (a.namespace(), a.key()) == (b.namespace(), b.key()));
+    let conditions = [
+        (!holds && holds_each(on_newest, &without_namespace_0), Branch::NewestNamespace0Decides),
+        (!holds && of_key, Branch::NewestChunkIndexDecides),
+        (holds && !of_type, Branch::NewestHoldsOtherType),
+    ];
+    run.met_each(&conditions);
+}
+
+pub fn copied_afresh(run: &mut Run, lists: &Lists, source: &Page, target: usize) {
+    let of_list = greatest(&lists.pages);
+    let conditions = [
+        (true, Branch::FinishCopiedAfresh),
+        (of_list.is_some() && of_list < Some(source.sequence), Branch::FinishSourceHasGreatest),
+        (blank(run.sector(target)), Branch::FinishTargetBlank),
+        (lists.free.iter().any(|free| *free > target), Branch::FinishTargetOutOfOrder),
+    ];
+    run.met_each(&conditions);
+}
+
+pub fn target_appended(run: &mut Run, pages: &[Page]) {
+    let full = pages.last().is_some_and(|target| target.state == State::Full);
+    let further_round = pages.iter().any(|page| page.state == State::Freeing);
+    run.met_if(full && further_round, Branch::FinishFullTargetBeforeRound);
+}
+
+fn branch_of_soundness(version: &Version) -> Branch {
+    let Some(index) = version.index() else {
+        return Branch::BlobNoIndex;
+    };
+    let count_alike = version.chunks.len() == index.item.chunk_count();
+    let size_alike = version.summed_sizes() == index.item.blob_size();
+    match (count_alike, size_alike, version.chunks.len()) {
+        (true, true, 0) => Branch::BlobSoundEmpty,
+        (true, true, 1) => Branch::BlobSoundOneChunk,
+        (true, true, _) => Branch::BlobSoundSeveralChunks,
+        (false, true, _) => Branch::BlobCountUnlike,
+        (true, false, _) => Branch::BlobSizeUnlike,
+        (false, false, _) => Branch::BlobBothUnlike,
+    }
+}
+
+/// A version as stage 3 judges it.
+pub fn version(run: &mut Run, namespace: u8, version: &Version) {
+    let branch = branch_of_soundness(version);
+    run.met(branch);
+    run.met_if(namespace == 0, Branch::BlobNamespace0);
+    let Some(index) = version.index() else { return };
+    let sound_branches =
+        [Branch::BlobSoundEmpty, Branch::BlobSoundOneChunk, Branch::BlobSoundSeveralChunks];
+    let sound = sound_branches.contains(&branch);
+    let others = || version.indices.iter().filter(|&&other| other != index);
+    let sizes = version.summed_sizes();
+    let same_low_bits = sizes & 0xFFFF == index.item.blob_size() & 0xFFFF;
+    let mut chunk_indices: Vec<u8> = version.chunks.iter().map(|chunk| chunk.item.chunk_index()).collect();
+    chunk_indices.sort();
+    chunk_indices.dedup();
+    let conditions = [
+        (others().next().is_some(), Branch::BlobSeveralIndices),
+        (others().any(|other| other.ties_with(index)), Branch::BlobIndicesTie),
+        (!sound && others().next().is_some(), Branch::BlobOlderIndexStays),
+        (!sound && index.item.span() > 1, Branch::BlobIndexOfLongSpan),
+        (!sound && namespace == 0, Branch::BlobNamespace0Erased),
+        (sound && chunk_indices.len() < version.chunks.len(), Branch::BlobSoundSameChunkTwice),
+        (sound && sizes > 0xFFFF, Branch::BlobSoundPast16Bits),
+        (branch == Branch::BlobSizeUnlike && same_low_bits, Branch::BlobSizeUnlikePast16Bits),
+    ];
+    run.met_each(&conditions);
+}
+
+/// Two sound versions of a key, the first older.
+pub fn older_of_two(run: &mut Run, older: &Version, newer: &Version) {
+    let (old, new) = (older.index().expect("sound"), newer.index().expect("sound"));
+    let oldest = |version: &Version| version.indices.iter().map(|index| index.newness()).min();
+    let conditions = [
+        (old.item.start() == 0, Branch::BlobOlderStart0),
+        (old.item.start() != 0, Branch::BlobOlderStart80),
+        (old.ties_with(new), Branch::BlobOlderByList),
+        (oldest(older) > oldest(newer), Branch::BlobOlderByIndexThatCounts),
+    ];
+    run.met_each(&conditions);
+}
+
+/// Items that no walk met as stage 3 began, where stage 4 finds another of their name.
+pub fn uncovered(run: &mut Run, begun: &[Found], left: &[Found]) {
+    let groups = crate::duplicates::groups(left);
+    let in_company =
+        |group: &Vec<&Found>| group.len() > 1 && group.iter().any(|item| !begun.contains(item));
+    run.met_if(groups.values().any(in_company), Branch::DuplicateUncovered);
+}
+
+pub fn groups(run: &mut Run, groups: &BTreeMap<(u8, Key), Vec<&Found>>) {
+    let up_to_zero = |key: &Key| key.iter().take_while(|byte| **byte != 0).copied().collect::<Vec<_>>();
+    let names: Vec<_> = groups.keys().map(|(namespace, key)| (*namespace, up_to_zero(key))).collect();
+    run.met_if(groups.values().all(|group| group.len() == 1), Branch::DuplicateNone);
+    // Groups ascend, so names alike up to a zero byte are neighbours.
+    run.met_if(names.windows(2).any(|pair| pair[0] == pair[1]), Branch::DuplicateKeysAlikeToZero);
+}
+
+/// An old item of a group and the kept one.
+pub fn duplicate(run: &mut Run, found: &[Found], old: &Found, kept: &Found) {
+    let tie = old.ties_with(kept);
+    let conditions = [
+        (old.sequence != kept.sequence, Branch::DuplicateBySequence),
+        (old.sequence == kept.sequence && !tie, Branch::DuplicateByEntry),
+        (tie, Branch::DuplicateByList),
+        (tie && old.sector > kept.sector, Branch::DuplicateByListNotSectors),
+        (old.item.kind() != kept.item.kind(), Branch::DuplicateTypesDiffer),
+    ];
+    run.met_each(&conditions);
+    if old.item.is_blob_index() {
+        old_index(run, found, old, kept);
+    }
+}
+
+fn old_index(run: &mut Run, found: &[Found], old: &Found, kept: &Found) {
+    let chunks = chunks_of(found, old);
+    let name = |part: &Found| (part.item.namespace(), part.item.key());
+    let of_key = found.iter().filter(|part| part.item.is_chunk() && name(part) == name(old)).count();
+    let kept_is_index = kept.item.is_blob_index();
+    let same_start = kept_is_index && old.item.start() == kept.item.start();
+    let some = !chunks.is_empty();
+    let conditions = [
+        (old.item.span() > 1, Branch::DuplicateIndexOfLongSpan),
+        (!some, Branch::DuplicateIndexWithoutChunks),
+        (some && same_start, Branch::DuplicateKeptIndexSameStart),
+        (
+            some && same_start && old.item.header[29] != kept.item.header[29],
+            Branch::DuplicateStartsUnlikeBytes,
+        ),
+        (some && kept_is_index && !same_start, Branch::DuplicateKeptIndexOtherStart),
+        (some && !kept_is_index, Branch::DuplicateKeptNoIndex),
+        (!same_start && of_key > chunks.len(), Branch::DuplicateOtherStartStays),
+    ];
+    run.met_each(&conditions);
+}
+
+/// Reclaim's result 6 at its edges, and result 5 before it.
+pub fn last_sequences(run: &mut Run, greatest: u32, no_free_sector: bool) {
+    run.met_if(no_free_sector && greatest > 0xFFFF_FFFD, Branch::ReclaimResult5Before6);
+    run.met_if(!no_free_sector && greatest == 0xFFFF_FFFD, Branch::ReclaimJustEnough);
+    run.met_if(!no_free_sector && greatest == 0xFFFF_FFFE, Branch::ReclaimJustTooMany);
+}
+
+/// The page that reclaim takes, once nothing refuses it.
+pub fn choice(run: &mut Run, pages: &[Page], candidates: &[Candidate], chosen: &Page) {
+    let most = candidates.iter().map(Candidate::points).max().unwrap_or(0);
+    let equals: Vec<_> = candidates.iter().filter(|candidate| candidate.points() == most).collect();
+    let tie = equals.len() > 1;
+    let unlike = equals.iter().any(|candidate| candidate.page.sequence != chosen.sequence);
+    let of = |candidate: &Candidate, state| total(run.sector(candidate.page.sector), state);
+    let age = |candidate: &Candidate| candidate.next - u64::from(candidate.page.sequence);
+    let other = |points: &dyn Fn(&Candidate) -> u64| most_points(candidates, points) != Some(*chosen);
+    let with_illegal = |candidate: &Candidate| {
+        let erased = candidate.erased + of(candidate, EntryState::Illegal);
+        Candidate { erased, ..*candidate }.points()
+    };
+    let in_32_bits = |candidate: &Candidate| u64::from(candidate.points() as u32);
+    let with_age = |candidate: &Candidate| 10 * u64::from(candidate.erased) + age(candidate);
+    let conditions = [
+        (most == 0, Branch::ReclaimNoPoints),
+        (tie && most == 0, Branch::ReclaimTieOfNoPoints),
+        (tie && most > 0 && !unlike, Branch::ReclaimTie),
+        (tie && most > 0 && unlike, Branch::ReclaimTieOfUnlikeSequences),
+        (candidates.len() < pages.len(), Branch::ReclaimSkipsWritten),
+        (chosen.sector != candidates[0].page.sector, Branch::ReclaimNotTheFirst),
+        (greatest(pages) == Some(u32::MAX), Branch::ReclaimNextPast32Bits),
+        (other(&in_32_bits), Branch::ReclaimPointsPast32BitsDecide),
+        (other(&with_illegal), Branch::ReclaimIllegalWouldDecide),
+        (other(&with_age), Branch::ReclaimAgeWouldDecide),
+    ];
+    run.met_each(&conditions);
+}

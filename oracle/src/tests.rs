@@ -1,0 +1,166 @@
+//! The model against cases worked by hand, and against recorded vectors where VECTORS names their folder.
+
+use std::path::PathBuf;
+
+use crate::compare::check;
+use crate::crc::crc;
+use crate::generate::case_of;
+use crate::items::{items, start_of_byte, walk, Met};
+use crate::listing::listing;
+use crate::named::two_freeing_pages;
+use crate::named::{active_non_copy_beside_freeing, equal_sequences, listing_example, number_item, page};
+use crate::protocol::Operation;
+use crate::reclaim::{reclaim, Candidate};
+use crate::recover::recover;
+use crate::scan::Page;
+use crate::sector::{entry_state, state, EntryState, State, FREEING_WORD, FULL_WORD};
+use crate::steps::{apply, sector_of, Stage, Step};
+use crate::writing::{blank_sector, set_entry, set_entry_state, Fields};
+
+fn states(image: &[u8]) -> Vec<State> {
+    image.chunks(4096).map(state).collect()
+}
+
+fn entry_states(byte: u8) -> Vec<EntryState> {
+    let mut sector = blank_sector();
+    sector[32] = byte;
+    (0..4).map(|entry| entry_state(&sector, entry)).collect()
+}
+
+#[test]
+fn p1_and_p2_entry_states() {
+    use EntryState::{Empty, Illegal, Written};
+    assert_eq!(entry_states(0xFA), [Written, Written, Empty, Empty]);
+    assert_eq!(entry_states(0xFD), [Illegal, Empty, Empty, Empty]);
+}
+
+#[test]
+fn p3_crc() {
+    assert_eq!(crc(&[]), 0xFFFF_FFFF);
+    assert_eq!(crc(&[0]), 0xFFFF_FFFF);
+}
+
+/// A page whose one header, at this entry, has this span.
+fn page_with_span(entry: usize, span: u8) -> Vec<u8> {
+    let mut sector = page(FULL_WORD, 1, &[]);
+    set_entry(&mut sector, entry, &Fields { span, ..number_item("a", 1) }.header());
+    set_entry_state(&mut sector, entry, EntryState::Written);
+    sector
+}
+
+#[test]
+fn p4_p5_p6_spans() {
+    assert_eq!(items(&page_with_span(0, 126)).len(), 1);
+    assert_eq!(walk(&page_with_span(0, 126)).len(), 1);
+    assert_eq!(items(&page_with_span(1, 126)), []);
+    assert_eq!(walk(&page_with_span(1, 126))[1], Met::SpanTooLong);
+    assert_eq!(walk(&page_with_span(0, 0)).len(), 126);
+    assert_eq!(walk(&page_with_span(0, 0))[0], Met::SpanZero);
+}
+
+/// A Full page with one item and so many Erased entries after it.
+fn page_with_erased(sequence: u32, erased: usize) -> Vec<u8> {
+    let mut sector = page(FULL_WORD, sequence, &[number_item("a", sequence as u8)]);
+    (1..=erased).for_each(|entry| set_entry_state(&mut sector, entry, EntryState::Erased));
+    sector
+}
+
+fn points_of(erased: u32, sequence: u32, next: u64) -> u64 {
+    let page = Page { sector: 0, state: State::Full, sequence };
+    Candidate { page, erased, next }.points()
+}
+
+#[test]
+fn p7_equal_points_the_later_wins() {
+    assert_eq!((points_of(3, 2, 20), points_of(4, 12, 20)), (48, 48));
+    let image = [page_with_erased(2, 3), page_with_erased(12, 4), page(FULL_WORD, 19, &[]), blank_sector()];
+    let outcome = reclaim(&image.concat(), 1);
+    assert_eq!(outcome.stopped_in(), Some(Stage::Reclaim));
+    assert_eq!(states(&outcome.image)[..2], [State::Full, State::Freeing]);
+}
+
+#[test]
+fn p8_no_points_without_an_erased_entry() {
+    assert_eq!(points_of(0, 1, 9), 0);
+}
+
+#[test]
+fn p9_programming_is_and() {
+    let mut image = page(FULL_WORD, 1, &[]);
+    apply(&mut image, Step::Program { sector: 0, word: 0, value: FREEING_WORD });
+    assert_eq!(image[..4], FREEING_WORD.to_le_bytes());
+}
+
+#[test]
+fn p10_starts() {
+    assert_eq!((start_of_byte(0x7F), start_of_byte(0x80)), (0, 0x80));
+}
+
+#[test]
+fn the_listing_example() {
+    let (outcome, text) = listing(&listing_example());
+    assert_eq!(outcome.list, []);
+    assert_eq!(
+        text,
+        "sectors 2 result 0 steps 0\n0 blank\n1 full 7 written 3 erased 2 empty 121 illegal 0\n"
+    );
+}
+
+#[test]
+fn lengths() {
+    let result = |length: usize| recover(&vec![0xFF; length], 0, &mut [None; 32]).result;
+    assert_eq!([0, 4095, 4096, 8192, 65536, 69632].map(result), [1, 1, 1, 0, 0, 1]);
+    assert_eq!(recover(&[0xFF; 8192], 0, &mut [None; 1]).result, 2);
+    assert_eq!(listing(&[0xFF; 69632]).1, "sectors 17 result 1 steps 0\n");
+}
+
+/// The first Active page is kept; its item is the newer of two equals, for it is now the last of the list.
+#[test]
+fn equal_sequences_keep_the_first() {
+    let outcome = recover(&equal_sequences(), u64::MAX, &mut [None; 2]);
+    assert_eq!((outcome.result, outcome.steps), (0, 2));
+    assert_eq!(states(&outcome.image), [State::Active, State::Full]);
+    assert_eq!(items(sector_of(&outcome.image, 0)).len(), 2);
+    assert_eq!(items(sector_of(&outcome.image, 1)), []);
+}
+
+/// Each round: 8 steps initialise, 9 copy an item, 1 erases. The first target is Active and no copy of the
+/// second source, so it stays; the second target is the greater, and stage 1 done again marks the first.
+#[test]
+fn two_freeing_pages_are_both_finished() {
+    let outcome = recover(&two_freeing_pages(), u64::MAX, &mut [None; 3]);
+    assert_eq!((outcome.result, outcome.steps), (0, (8 + 9 + 1) + (8 + 2 * 9 + 1) + 1));
+    assert_eq!(states(&outcome.image), [State::Active, State::Blank, State::Full]);
+    let cut = recover(&two_freeing_pages(), 18, &mut [None; 3]);
+    assert_eq!((cut.result, cut.stopped_in()), (7, Some(Stage::Finish { source: 1 })));
+}
+
+/// The Active page stays, the source is copied to the free sector; of the two equal items the one on the
+/// newer page is kept.
+#[test]
+fn an_active_page_that_is_no_copy_stays() {
+    let outcome = recover(&active_non_copy_beside_freeing(), u64::MAX, &mut [None; 3]);
+    assert_eq!(states(&outcome.image), [State::Blank, State::Full, State::Active]);
+    assert_eq!(items(sector_of(&outcome.image, 1)).len(), 1);
+    assert_eq!(items(sector_of(&outcome.image, 2)).len(), 1);
+}
+
+/// The generator gives the same bytes on any machine: their CRC is written down here.
+#[test]
+fn the_generator_is_fixed() {
+    let mut bytes = Vec::new();
+    (0..200).for_each(|number| case_of(1, number, &Operation::ALL).encode(&mut bytes));
+    assert_eq!(crc(&bytes), 0x4C86_C64B);
+}
+
+#[test]
+fn the_vectors_agree() {
+    let Some(folder) = std::env::var_os("VECTORS").map(PathBuf::from) else {
+        println!("VECTORS names no folder: not run");
+        return;
+    };
+    for name in ["items", "reclaim", "recover", "listing"] {
+        let file = |kind: &str| folder.join(format!("{name}.{kind}")).display().to_string();
+        assert!(check(&file("in"), &file("out")).expect("readable files"), "{name}");
+    }
+}
