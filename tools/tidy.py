@@ -5,6 +5,8 @@ import sys, re, glob
 
 def tidy(path):
     text = open(path).read()
+    if 'tie.close' not in text:
+        return  # a walk by hand
     text = re.sub(r'^-- src/\S+\n', '', text, flags=re.M)
     text = re.sub(r'^use \S+ as (?:reads|lts|\S+-reads)\n', '', text, flags=re.M)
     for name, args in re.findall(r'^(\S+) : tie\.Need-\S+[^\n]*\n\1 ((?:c|c κs)) = search needs\n\n', text, flags=re.M):
@@ -16,7 +18,7 @@ def tidy(path):
     body = text[text.rindex('\nuse '):] if '\nuse ' in text else text
     for module, names in re.findall(r'^use (\S+)\.\{([^}]*)\}\n', text, flags=re.M):
         kept = [n for n in (x.strip() for x in names.split(','))
-                if len(re.findall(r'(?<![\w·])%s(?![\w·-])' % re.escape(n.strip('_').replace('_', ' ').strip() or n), re.sub(r'^use .*\n', '', text, flags=re.M))) > 0]
+                if len(re.findall(r'(?<![\w·])%s(?![\w·-])' % re.escape(n.split(' as ')[-1].strip('_').replace('_', ' ').strip() or n), re.sub(r'^use .*\n', '', text, flags=re.M))) > 0]
         old = 'use %s.{%s}\n' % (module, names)
         text = text.replace(old, 'use %s.{%s}\n' % (module, ', '.join(kept)) if kept else '')
     open(path, 'w').write(text)

@@ -17,22 +17,27 @@ entryAt t i = part t (64 + i * 32) 32
 -- "Entry: byte 0 namespace, 1 type, 2 span, 3 chunk index"
 abbrev pub namespaceOf : List ℕ → ℕ
 namespaceOf h = getD h 0 0
+
 abbrev pub kindIn : List ℕ → Kind
 kindIn h = kindOf (getD h 1 0)
+
 abbrev pub spanOf : List ℕ → ℕ
 spanOf h = getD h 2 0
+
 abbrev pub chunkIndexOf : List ℕ → ℕ
 chunkIndexOf h = getD h 3 0
 
 -- "4-7 CRC of bytes 0-3 and 8-31"
 abbrev pub crcIn : List ℕ → ℕ
 crcIn h = le h 4 4
+
 unfoldable pub entryCrc : List ℕ → ℕ
 entryCrc h = crcOf (take 4 h ++ drop 8 h)
 
 -- "8-23 key": sixteen bytes, compared from the first on, as one number of two halves
 unfoldable pub keyOf : List ℕ → Key
 keyOf h = record { high = be h 8 8; low = be h 16 8 }
+
 abbrev pub keyNumber : Key → ℕ
 keyNumber k = k .high * 2 ^ 64 + k .low
 
@@ -47,8 +52,10 @@ chunkSize h = le h 24 2
 -- "A blob index has size in 4 bytes, chunk count in 1, chunk start in 1."
 abbrev pub indexSize : List ℕ → ℕ
 indexSize h = le h 24 4
+
 abbrev pub indexCount : List ℕ → ℕ
 indexCount h = getD h 28 0
+
 abbrev pub indexStart : List ℕ → ℕ
 indexStart h = getD h 29 0
 

@@ -9,10 +9,13 @@ use Rattle.entry.specs.declared.states.Totals.{Totals}
 -- "3 Empty, 2 Written, 0 Erased, 1 Illegal"
 abbrev pub empty : ℕ
 empty = 3
+
 abbrev pub written : ℕ
 written = 2
+
 abbrev pub erased : ℕ
 erased = 0
+
 abbrev pub illegal : ℕ
 illegal = 1
 

@@ -20,7 +20,7 @@ abbrev μ-loop : tie.MeasureT-loop
 
 returns : tie.Need-returns Inv-loop μ-loop
 unfolding allOnes
-returns c = 
+returns c =
     let k = c .before .before .before in
     let s = k .before .args .s .now in
     let i = k .loop .i in
@@ -29,7 +29,7 @@ returns c =
 
 loop-again : tie.Need-loop-again Inv-loop μ-loop
 unfolding allOnes
-loop-again c = 
+loop-again c =
     let k = c .before .before .before in
     let s = k .before .args .s .now in
     let i = k .loop .i in

@@ -23,13 +23,13 @@ returns-2 c = rw (← c .before .before .before .all-ones .ensures, c .before .b
 
 returns-3 : tie.Need-returns-3
 unfolding stateOf headerRight
-returns-3 c = 
+returns-3 c =
     let ne : le (c .before .before .before .before .before .before .before .before .before .args .s .now) 28 4 ≡ crcOf (part (c .before .before .before .before .before .before .before .before .before .args .s .now) 4 24) → ⊥ = λ e. c .if3 .taken (c .before .before .before .le32 .ensures ∙ e ∙ sym (c .before .crc .ensures)) in
     rw (← c .before .before .before .before .before .before .before .all-ones .ensures, c .before .before .before .before .before .before .if1 .left, le-leb _ _ (c .before .before .before .before .if2 .left), ne-eqb _ _ ne)
 
 returns-4 : tie.Need-returns-4
 unfolding stateOf headerRight wordState
-returns-4 c = 
+returns-4 c =
     let k = c .before .before .before .before .before .before .before .before .before .before .before .before .before .before in
     let s = k .args .s .now in
     let e : le s 28 4 ≡ crcOf (part s 4 24) = sym (c .before .before .before .before .before .before .before .before .le32 .ensures) ∙ c .before .before .before .before .before .if3 .left ∙ c .before .before .before .before .before .before .crc .ensures in

@@ -30,7 +30,7 @@ returns-6 c = rw (eq-eqb _ _ (c .before .before .before .if1 .left), eq-eqb _ _ 
 
 returns-7 : tie.Need-returns-7
 unfolding wordState
-returns-7 c = 
+returns-7 c =
     let r = c .match .rest in
     let b = c .before .before .before .before .args .b0 in
     rw (eq-eqb _ _ (c .before .before .before .if1 .left), eq-eqb _ _ (c .before .before .if2 .left), eq-eqb _ _ (c .before .if3 .left)) (simp (ne-eqb b _ (r .0 .0 .1), ne-eqb b _ (r .0 .1), ne-eqb b _ (r .1)))

