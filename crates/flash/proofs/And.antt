@@ -4,7 +4,7 @@ use Prim.Native.Nat.{ℕ, _+_, _*_, _/_, _%_, _^_, _≤_, _<_, min}
 use native.Mathlib.Nat.{mod-eq-of-lt}
 use native.Mathlib.Omega.{arith}
 use lib.Arith.{bin-ind}
-use lib.Bits.{bitAnd, and-self, and-comm, and-le-l, and-mask, and-step, and-shr, and-mod}
+use lib.Bits.{bitAnd, and-self, and-comm, and-le-l, and-zero-r, and-mask, and-step, and-shr, and-mod}
 use Rattle.flash.specs.Step.{and8}
 
 pub and8-self : (x : ℕ) → and8 x x ≡ x
@@ -18,6 +18,10 @@ and8-comm x y = and-comm x y
 pub and8-le : (x y : ℕ) → and8 x y ≤ x
 unfolding and8
 and8-le x y = and-le-l x y
+
+pub and8-none : (x : ℕ) → and8 x 0 ≡ 0
+unfolding and8
+and8-none x = and-zero-r x
 
 -- a byte ANDed with ones, and ones with a byte
 pub and8-full : (x : ℕ) → x < 256 → and8 x 0xFF ≡ x

@@ -5,10 +5,11 @@ use mathlib.Core.List.{List, [], _∷_}
 use Prim.Native.Nat.{ℕ, _+_, _-_, _*_}
 use native.Mathlib.Omega.{arith}
 use Rattle.word.specs.Number.{part}
+use Rattle.page.specs.State.{allOnes}
 use Rattle.flash.specs.Step.{erase, sector}
 use Rattle.flash.proofs.Every.{Every}
 use Rattle.flash.proofs.Frame.{AllIn}
-use Rattle.item.specs.Initialise.{allOnes, clearing}
+use Rattle.item.specs.Initialise.{clearing}
 
 module _ (s : ℕ) (l : List ℕ) where
   -- what a callee saw that was lent the sector

@@ -1,5 +1,9 @@
 pub mod Ones
 pub mod Clearing
+pub mod Header
 pub mod Pairs
 pub mod Turns
 pub mod States
+pub mod Spans
+pub mod Local
+pub mod Safe

@@ -2,29 +2,13 @@
 use mathlib.Core.Path.{_≡_, refl}
 use mathlib.Core.Bool.{Bool, true, false, _&&_, false≢true}
 use mathlib.Core.List.{List, [], _∷_}
-use Prim.Native.Nat.{ℕ, zero, suc, _+_, _≤_, _<_}
+use Prim.Native.Nat.{ℕ, zero, suc, _<_}
 use native.Mathlib.Omega.{arith}
-use native.Mathlib.Numerals.{add-one}
 use lib.Dec.{eqb}
-use lib.ListN.{length, getD, drop, drop-of-length-le}
-use lib.Seq.{drop-cons}
-use borrow.Author.Tests.{eq-eqb, ne-eqb, eqb-true}
+use lib.ListN.{length, getD}
+use borrow.Author.Tests.{eqb-true}
 use Rattle.flash.specs.Step.{blank}
-use Rattle.item.specs.Initialise.{allOnes}
-
--- a turn of the loop that looks at them
-module _ (l : List ℕ) (i : ℕ) where
-  pub ones-more : i < length l → getD l i 0 ≡ 0xFF → allOnes (drop i l) ≡ allOnes (drop (i + 1) l)
-  unfolding allOnes
-  ones-more h e = rw (add-one, drop-cons l i 0 h, eq-eqb (getD l i 0) 0xFF e)
-
-  pub ones-not : i < length l → (getD l i 0 ≡ 0xFF → ⊥) → allOnes (drop i l) ≡ false
-  unfolding allOnes
-  ones-not h e = rw (drop-cons l i 0 h, ne-eqb (getD l i 0) 0xFF e)
-
-  pub ones-end : length l ≤ i → allOnes (drop i l) ≡ true
-  unfolding allOnes
-  ones-end h = rw (drop-of-length-le l h)
+use Rattle.page.specs.State.{allOnes}
 
 -- each of them
 pub ones-byte : (l : List ℕ) → allOnes l ≡ true → (i : ℕ) → i < length l → getD l i 0 ≡ 0xFF

@@ -1,18 +1,13 @@
 -- Document 01, The flash model and the allowance: "Initialise a sector: erase it if not Blank; program words 1 to 7 ascending, then word 0 as Active.
 -- Version 0xFE." Assumes nothing.
-use mathlib.Core.Bool.{Bool, true, _&&_, cond}
+use mathlib.Core.Bool.{cond}
 use mathlib.Core.List.{List, [], _∷_, _++_}
 use Prim.Native.Nat.{ℕ, _*_, _/_, _%_}
-use lib.Dec.{eqb}
 use lib.ListN.{replicate}
 use Rattle.crc.specs.Crc.{crcOf}
+use Rattle.page.specs.State.{allOnes}
 use Rattle.flash.specs.Step.{Step, erase, sector}
 use Rattle.flash.specs.Words.{words}
-
--- "All bytes 0xFF: Blank."
-unfoldable pub allOnes : List ℕ → Bool
-allOnes [] = true
-allOnes (b ∷ bs) = eqb b 0xFF && allOnes bs
 
 -- "erase it if not Blank", judged on the bytes as they stand
 unfoldable pub clearing : ℕ → List ℕ → List Step

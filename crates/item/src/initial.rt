@@ -5,21 +5,7 @@ ghost use Prim.Native.Nat.{_+_, _*_, _≤_};
 ghost use lib.ListN.{length};
 ghost use Rattle.crc.specs.Table.{crcTable};
 ghost use Rattle.flash.specs.Did.{Did};
-ghost use Rattle.item.specs.Initialise.{allOnes, clearing, header, initialising};
-
-// Whether every byte is 0xFF.
-pub fn all_ones(s: &[u8]) -> bool
-    ensures { λ r. ⌜ r ≡ allOnes (now (s .entry)) ⌝ }
-{
-    let mut i = 0;
-    while i < s.len() {
-        if s[i] != 0xFF {
-            return false;
-        }
-        i += 1;
-    }
-    true
-}
+ghost use Rattle.item.specs.Initialise.{clearing, header, initialising};
 
 // Erases sector `s`, unless it is Blank.
 pub fn clear_sector(image: &mut [u8], s: usize, left: u64) -> Ran
@@ -28,7 +14,7 @@ pub fn clear_sector(image: &mut [u8], s: usize, left: u64) -> Ran
 {
     let a = s * 4096;
     let e = a + 4096;
-    if all_ones(&image[a..e]) {
+    if page::all_ones(&image[a..e]) {
         return Ran::Done(left);
     }
     flash::erase_sector(image, s, left)

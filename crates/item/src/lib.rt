@@ -7,7 +7,6 @@ mod span;
 
 pub use copy::copy_item;
 pub use erase::erase_item;
-pub use initial::all_ones;
 pub use initial::clear_sector;
 pub use initial::header_of;
 pub use initial::initialise;

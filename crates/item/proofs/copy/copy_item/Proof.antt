@@ -14,44 +14,9 @@ use Rattle.item.proofs.Turns.{copying-by}
 use borrow.Author.Needs.{needs}
 use Rattle.item.proofs.copy.copy_item.Statement.{statement}
 use Rattle.item.proofs.copy.copy_item.Tie as tie
-use Rattle.item.proofs.copy.copy_item.Reads as reads
-use Rattle.item.proofs.copy.copy_item.Lts as lts
-use Rattle.item.proofs.copy.copy_words.Reads as copy-words-reads
-use Rattle.item.proofs.copy.mark_if_used.Reads as mark-if-used-reads
-use Rattle.item.proofs.span.mark_written.Reads as mark-written-reads
-
-add-from : tie.Need-add-from
-add-from c = search needs
-
-mul-from : tie.Need-mul-from
-mul-from c = search needs
-
-add-from-2 : tie.Need-add-from-2
-add-from-2 c = search needs
-
-add-to : tie.Need-add-to
-add-to c = search needs
-
-mul-to : tie.Need-mul-to
-mul-to c = search needs
-
-add-to-2 : tie.Need-add-to-2
-add-to-2 c = search needs
-
-mul-copy-words : tie.Need-mul-copy-words
-mul-copy-words c = search needs
 
 copy-words-requires : tie.Need-copy-words-requires
 copy-words-requires c κs = (omega arith, omega arith, ⊎-elim (λ g. inl (omega arith)) (λ g. inr (omega arith)) (c .before .before .pre .2))
-
-enum-known-r1 : tie.Need-enum-known-r1
-enum-known-r1 c = search needs
-
-enum-told : tie.Need-enum-told
-enum-told c = search needs
-
-same-length : tie.Need-same-length
-same-length c = search needs
 
 returns : tie.Need-returns
 returns c =
@@ -59,18 +24,6 @@ returns c =
     let s = w .before .before .before in
     let a = s .args in
     goes-stop _ (goes-start _ _ _) (copying-by (a .target) (a .j) (a .source + 64 + a .i * 32) (a .n) (a .image .now) (s .pre .6)) (w .copy-words .ensures) (c .enum-told .given .1)
-
-mark-written-requires : tie.Need-mark-written-requires
-mark-written-requires c κs = search needs
-
-enum-known-r2 : tie.Need-enum-known-r2
-enum-known-r2 c = search needs
-
-enum-told-2 : tie.Need-enum-told-2
-enum-told-2 c = search needs
-
-same-length-2 : tie.Need-same-length-2
-same-length-2 c = search needs
 
 -- what is left once the words are copied
 copied : (c : tie.After-known-told) →
@@ -89,15 +42,6 @@ returns-2 c =
     let m = c .before .before .before .before in
     goes-stop _ (copied (m .before .before)) refl (m .mark-written .ensures) (c .enum-told2 .given .1)
 
-add-mark-if-used : tie.Need-add-mark-if-used
-add-mark-if-used c = search needs
-
-mark-if-used-requires : tie.Need-mark-if-used-requires
-mark-if-used-requires c κs = search needs
-
-same-length-3 : tie.Need-same-length-3
-same-length-3 c = search needs
-
 returns-3 : tie.Need-returns-3
 returns-3 c =
     let f = c .before .before in
@@ -109,24 +53,24 @@ pub copy-item-spec : {M : Type 1} → statement M
 copy-item-spec =
     tie.close
     (tie.spec
-    add-from
-    mul-from
-    add-from-2
-    add-to
-    mul-to
-    add-to-2
-    mul-copy-words
+    (λ c. search needs)
+    (λ c. search needs)
+    (λ c. search needs)
+    (λ c. search needs)
+    (λ c. search needs)
+    (λ c. search needs)
+    (λ c. search needs)
     copy-words-requires
-    enum-known-r1
-    enum-told
-    same-length
+    (λ c. search needs)
+    (λ c. search needs)
+    (λ c. search needs)
     returns
-    mark-written-requires
-    enum-known-r2
-    enum-told-2
-    same-length-2
+    (λ c κs. search needs)
+    (λ c. search needs)
+    (λ c. search needs)
+    (λ c. search needs)
     returns-2
-    add-mark-if-used
-    mark-if-used-requires
-    same-length-3
+    (λ c. search needs)
+    (λ c κs. search needs)
+    (λ c. search needs)
     returns-3)

@@ -16,9 +16,6 @@ use Rattle.item.proofs.Turns.{copy-more}
 use borrow.Author.Needs.{needs}
 use Rattle.item.proofs.copy.copy_words.Statement.{statement}
 use Rattle.item.proofs.copy.copy_words.Tie as tie
-use Rattle.item.proofs.copy.copy_words.Reads as reads
-use Rattle.item.proofs.copy.copy_words.Lts as lts
-use Rattle.flash.proofs.program_word.Reads as program-word-reads
 
 abbrev Inv-loop : tie.InvT-loop
 Inv-loop image₀ from to n allowed left₀ k₀ image left k =
@@ -31,54 +28,6 @@ abbrev μ-loop : tie.MeasureT-loop
 loop-holds : tie.Need-loop-holds Inv-loop μ-loop
 loop-holds c = (omega arith, refl, refl, rw sub-zero (goes-start _ _ _))
 
-mul-i : tie.Need-mul-i Inv-loop μ-loop
-mul-i c = search needs
-
-add-a : tie.Need-add-a Inv-loop μ-loop
-add-a c = search needs
-
-slice-read-b0 : tie.Need-slice-read-b0 Inv-loop μ-loop
-slice-read-b0 c = search needs
-
-add-b1 : tie.Need-add-b1 Inv-loop μ-loop
-add-b1 c = search needs
-
-slice-read-b1 : tie.Need-slice-read-b1 Inv-loop μ-loop
-slice-read-b1 c = search needs
-
-add-b2 : tie.Need-add-b2 Inv-loop μ-loop
-add-b2 c = search needs
-
-slice-read-b2 : tie.Need-slice-read-b2 Inv-loop μ-loop
-slice-read-b2 c = search needs
-
-add-b3 : tie.Need-add-b3 Inv-loop μ-loop
-add-b3 c = search needs
-
-slice-read-b3 : tie.Need-slice-read-b3 Inv-loop μ-loop
-slice-read-b3 c = search needs
-
-sub-program-word : tie.Need-sub-program-word Inv-loop μ-loop
-sub-program-word c = search needs
-
-part-program-word-start : tie.Need-part-program-word-start Inv-loop μ-loop
-part-program-word-start c = search needs
-
-part-program-word-end : tie.Need-part-program-word-end Inv-loop μ-loop
-part-program-word-end c = search needs
-
-program-word-requires : tie.Need-program-word-requires Inv-loop μ-loop
-program-word-requires c κs = search needs
-
-enum-known-r : tie.Need-enum-known-r Inv-loop μ-loop
-enum-known-r c = search needs
-
-enum-told : tie.Need-enum-told Inv-loop μ-loop
-enum-told c = search needs
-
-same-length : tie.Need-same-length Inv-loop μ-loop
-same-length c = search needs
-
 returns : tie.Need-returns Inv-loop μ-loop
 returns c =
     let p = c .before .before .before .before in
@@ -87,12 +36,6 @@ returns c =
     let v = l .loop in
     let made = did-lent (a .to) (length (v .image) - a .to) (v .image) (every-one _ _ (omega arith)) (p .program-word .ensures) in
     goes-stop _ (v .inv .3) (copy-more (a .to) (a .from) (a .n) (v .k) (omega arith) (v .image) (a .image .now) (v .inv .2)) made (c .enum-told .given .1)
-
-add-k : tie.Need-add-k Inv-loop μ-loop
-add-k c = search needs
-
-loop-less : tie.Need-loop-less Inv-loop μ-loop
-loop-less c = search needs
 
 loop-again : tie.Need-loop-again Inv-loop μ-loop
 loop-again c =
@@ -107,9 +50,6 @@ loop-again c =
       goes-on (v .inv .3) (copy-more (a .to) (a .from) (a .n) (v .k) (omega arith) (v .image) (a .image .now) (v .inv .2)) made (c .before .r .given .1),
     )
 
-same-length-2 : tie.Need-same-length-2 Inv-loop μ-loop
-same-length-2 c = search needs
-
 returns-2 : tie.Need-returns-2 Inv-loop μ-loop
 returns-2 c =
     let l = c .before in
@@ -123,25 +63,25 @@ copy-words-spec =
     Inv-loop
     μ-loop
     loop-holds
-    mul-i
-    add-a
-    slice-read-b0
-    add-b1
-    slice-read-b1
-    add-b2
-    slice-read-b2
-    add-b3
-    slice-read-b3
-    sub-program-word
-    part-program-word-start
-    part-program-word-end
-    program-word-requires
-    enum-known-r
-    enum-told
-    same-length
+    (λ c. search needs)
+    (λ c. search needs)
+    (λ c. search needs)
+    (λ c. search needs)
+    (λ c. search needs)
+    (λ c. search needs)
+    (λ c. search needs)
+    (λ c. search needs)
+    (λ c. search needs)
+    (λ c. search needs)
+    (λ c. search needs)
+    (λ c. search needs)
+    (λ c κs. search needs)
+    (λ c. search needs)
+    (λ c. search needs)
+    (λ c. search needs)
     returns
-    add-k
-    loop-less
+    (λ c. search needs)
+    (λ c. search needs)
     loop-again
-    same-length-2
+    (λ c. search needs)
     returns-2)

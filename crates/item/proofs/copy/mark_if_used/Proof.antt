@@ -4,15 +4,6 @@ use Rattle.item.proofs.Turns.{full-yes, full-no}
 use borrow.Author.Needs.{needs}
 use Rattle.item.proofs.copy.mark_if_used.Statement.{statement}
 use Rattle.item.proofs.copy.mark_if_used.Tie as tie
-use Rattle.item.proofs.copy.mark_if_used.Reads as reads
-use Rattle.item.proofs.copy.mark_if_used.Lts as lts
-use Rattle.flash.proofs.program_word.Reads as program-word-reads
-
-program-word-requires : tie.Need-program-word-requires
-program-word-requires c κs = search needs
-
-same-length : tie.Need-same-length
-same-length c = search needs
 
 returns : tie.Need-returns
 returns c = rw (full-yes _ _ (c .before .before .before .before .if1 .taken)) (c .before .before .program-word .ensures)
@@ -21,4 +12,4 @@ returns-2 : tie.Need-returns-2
 returns-2 c = rw (full-no _ _ (c .if1 .left)) (did-none _ _)
 
 pub mark-if-used-spec : {M : Type 1} → statement M
-mark-if-used-spec = tie.close (tie.spec program-word-requires same-length returns returns-2)
+mark-if-used-spec = tie.close (tie.spec (λ c κs. search needs) (λ c. search needs) returns returns-2)

@@ -5,14 +5,9 @@ use Rattle.item.proofs.Pairs.{pair-below, pair-above, pair-in}
 use borrow.Author.Needs.{needs}
 use Rattle.item.proofs.span.pair.Statement.{statement}
 use Rattle.item.proofs.span.pair.Tie as tie
-use Rattle.item.proofs.span.pair.Reads as reads
-use Rattle.item.proofs.span.pair.Lts as lts
 
 returns : tie.Need-returns
 returns c = (sym (pair-below _ _ _ _ (c .if1 .taken)), omega arith)
-
-add-if2 : tie.Need-add-if2
-add-if2 c = search needs
 
 returns-2 : tie.Need-returns-2
 returns-2 c = (sym (pair-above _ _ _ _ (c .before .if1 .left) (c .if2 .taken)), omega arith)
@@ -21,4 +16,4 @@ returns-3 : tie.Need-returns-3
 returns-3 c = (sym (pair-in _ _ _ _ (c .before .if1 .left) (c .if2 .left)), omega arith)
 
 pub pair-spec : {M : Type 1} → statement M
-pair-spec = tie.close (tie.spec returns add-if2 returns-2 returns-3)
+pair-spec = tie.close (tie.spec returns (λ c. search needs) returns-2 returns-3)
