@@ -1,16 +1,14 @@
 //! Recovery, stage 1.
 
 use crate::branch::Branch;
+use crate::notes;
 use crate::scan::{greatest, Page};
 use crate::sector::{total, EntryState, State};
 use crate::steps::{Run, Stage};
 
-/// "The Active page of greatest sequence, the first among equals".
-fn kept_page(run: &mut Run, pages: &[Page]) -> Option<usize> {
-    let active = || pages.iter().filter(|page| page.state == State::Active);
-    let sequence = greatest(active())?;
-    let equals = active().filter(|page| page.sequence == sequence).count();
-    run.met_if(equals > 1, Branch::OrderEqualSequences);
+/// "The Active page of greatest sequence, the first among equals": its place in the list.
+pub fn kept_place(pages: &[Page]) -> Option<usize> {
+    let sequence = greatest(pages.iter().filter(|page| page.state == State::Active))?;
     pages.iter().position(|page| page.state == State::Active && page.sequence == sequence)
 }
 
@@ -19,12 +17,9 @@ fn kept_page(run: &mut Run, pages: &[Page]) -> Option<usize> {
 /// it is marked Full."
 pub fn active_order(run: &mut Run, pages: &mut [Page]) {
     run.stage = Stage::ActiveOrder;
-    let Some(kept) = kept_page(run, pages) else {
-        run.met(Branch::OrderNoActive);
-        return;
-    };
+    notes::kept(run, pages);
+    let Some(kept) = kept_place(pages) else { return };
     let last = pages.len() - 1;
-    run.met(if kept == last { Branch::OrderKeptIsLast } else { Branch::OrderChangesPlaces });
     pages.swap(kept, last);
     for page in &mut pages[..last] {
         if page.state == State::Active {

@@ -43,8 +43,10 @@ impl<'a> Version<'a> {
 }
 
 /// "A version is (namespace, key, start) [..] Versions are taken in ascending (namespace, start, key)".
-fn versions(found: &[Found]) -> BTreeMap<(u8, u8, Key), Version<'_>> {
-    let mut versions: BTreeMap<(u8, u8, Key), Version> = BTreeMap::new();
+pub type Versions<'a> = BTreeMap<(u8, u8, Key), Version<'a>>;
+
+fn versions(found: &[Found]) -> Versions<'_> {
+    let mut versions = Versions::new();
     for part in found.iter().filter(|part| part.item.is_chunk() || part.item.is_blob_index()) {
         let name = (part.item.namespace(), part.item.start(), part.item.key());
         let version = versions.entry(name).or_default();
@@ -57,27 +59,32 @@ fn versions(found: &[Found]) -> BTreeMap<(u8, u8, Key), Version<'_>> {
     versions
 }
 
-/// "Of two sound versions of a key the older goes the same way [..] the older-of-two after all others in
-/// ascending (namespace, key)".
-fn erase_older_of_two(run: &mut Run, sound: BTreeMap<(u8, Key), Vec<Version>>) {
-    for mut pair in sound.into_values().filter(|versions| versions.len() == 2) {
-        pair.sort_by_key(|version| version.index().expect("sound").newness());
-        notes::older_of_two(run, &pair[0], &pair[1]);
-        pair[0].erase(run);
+/// The two sound versions of each key that has two, the older first, in "ascending (namespace, key)".
+fn sound_pairs<'a, 'b>(sound: &'b Versions<'a>) -> Vec<[&'b Version<'a>; 2]> {
+    let mut pairs = Vec::new();
+    for ((namespace, start, key), version) in sound {
+        if let (0, Some(other)) = (start, sound.get(&(*namespace, 0x80, *key))) {
+            let mut pair = [version, other];
+            pair.sort_by_key(|version| version.index().expect("sound").newness());
+            pairs.push(pair);
+        }
     }
+    pairs
 }
 
+/// "Of two sound versions of a key the older goes the same way [..] the older-of-two after all others".
 /// "This stage and the next each judge by the items found as they begin".
 pub fn blobs(run: &mut Run, found: &[Found]) {
     run.stage = Stage::Blobs;
-    let mut sound: BTreeMap<(u8, Key), Vec<Version>> = BTreeMap::new();
-    for ((namespace, _, key), version) in versions(found) {
-        notes::version(run, namespace, &version);
-        if version.sound() {
-            sound.entry((namespace, key)).or_default().push(version);
-        } else {
-            version.erase(run);
-        }
+    let (sound, unsound): (Versions, Versions) =
+        versions(found).into_iter().partition(|(_, version)| version.sound());
+    notes::sound_versions(run, &sound);
+    for (name, version) in &unsound {
+        notes::unsound_version(run, &unsound, name);
+        version.erase(run);
     }
-    erase_older_of_two(run, sound);
+    for [older, newer] in sound_pairs(&sound) {
+        notes::older_of_two(run, &unsound, older, newer);
+        older.erase(run);
+    }
 }

@@ -2,6 +2,7 @@
 
 use std::collections::{BTreeMap, BTreeSet};
 
+use crate::active_order::kept_place;
 use crate::branch::Branch;
 use crate::generate::case_of;
 use crate::items::{read_items, walk, Item, Met, KNOWN_TYPES};
@@ -9,7 +10,7 @@ use crate::listing::listing;
 use crate::protocol::{Case, Operation};
 use crate::reclaim::reclaim;
 use crate::recover::recover;
-use crate::scan::{greatest, scan};
+use crate::scan::scan;
 use crate::sector::{
     blank, entry_state, header_crc_right, number, record, state, state_of_word, version, version_known,
     EntryState, Record, State, ENTRIES, ENTRY_BYTES, SECTOR_BYTES,
@@ -208,12 +209,13 @@ fn branches_of_stop(case: &Case, outcome: &Outcome) -> Branches {
     };
     let of_stage = |wanted: Stage| stage == wanted && next.stage == wanted;
     let descends = sector == next_sector && word == next_word + 1;
-    let keeps = kept_sector(&case.image) == Some(next_sector);
+    let pages = scan(&case.image).pages;
+    let keeps = kept_place(&pages).is_some_and(|kept| pages[kept].sector == next_sector);
     let marks = of_stage(Stage::ActiveOrder);
     held(&[
-        ((1..8).contains(&word), Branch::StoppedInInitialise),
-        (word >= 16 && next_word >= 16, Branch::StoppedInCopy),
-        (word >= 16 && next_word < 16, Branch::StoppedBeforeStates),
+        ((1..8).contains(&word), Branch::InitialiseStoppedInside),
+        (word >= 16 && next_word >= 16, Branch::CopyStoppedInside),
+        (word >= 16 && next_word < 16, Branch::CopyStoppedBeforeStates),
         (marks && !keeps && sector > next_sector, Branch::RecoveryStoppedAmongMarks),
         (marks && keeps, Branch::RecoveryStoppedBeforeKept),
         (of_stage(Stage::Blobs) && descends, Branch::RecoveryStoppedInErasure),
@@ -221,14 +223,6 @@ fn branches_of_stop(case: &Case, outcome: &Outcome) -> Branches {
         (of_stage(Stage::Duplicates) && !descends, Branch::RecoveryStoppedBetween4),
         (next.stage == Stage::Duplicates && next_word == 0, Branch::RecoveryStoppedBeforeFull),
     ])
-}
-
-/// The sector of the Active page that stage 1 keeps.
-fn kept_sector(image: &[u8]) -> Option<usize> {
-    let pages = scan(image).pages;
-    let active = || pages.iter().filter(|page| page.state == State::Active);
-    let sequence = greatest(active())?;
-    active().find(|page| page.sequence == sequence).map(|page| page.sector)
 }
 
 fn fits(outcome: &Outcome, case: &Case) -> bool {

@@ -1,13 +1,12 @@
-//! Draws an image: the states of its sectors, their sequences, the pieces on them, and what befell it.
+//! Draws an image: the states of its sectors, their sequences, the pieces on them.
 
 use crate::draw_page::{draw_corrupt, draw_draft, Draft};
 use crate::draw_pieces::{draw_pieces, Piece};
 use crate::items::{items, Item};
+use crate::mishaps::{cut, flip_bits};
 use crate::random::Random;
-use crate::reclaim::reclaim;
-use crate::recover::recover;
 use crate::sector::{free, sequence, state, EntryState, State, ENTRIES, ENTRY_BYTES, SECTOR_BYTES};
-use crate::steps::{sector_of, sector_of_mut, Step, TaggedStep};
+use crate::steps::{sector_of, sector_of_mut};
 use crate::writing::blank_sector;
 
 /// Mostly small, so that many cases are quick.
@@ -36,10 +35,10 @@ fn draw_states(random: &mut Random, sectors: usize, without_active: bool) -> Vec
         7 => (&[Active, Freeing], &[Full, Full, Blank, Corrupt]),
         8 => (&[Active, Active], &[Active, Full, Freeing, Blank]),
         9 => (&[Freeing, Freeing], &[Full, Active, Freeing, Blank]),
-        10 => (&[Active], &[Active, Full, Freeing]),
+        10 => (&[Active], &[Active, Active, Full, Freeing]),
         _ => (&[Full, Full], &[Full, Active, Blank]),
     };
-    let mut states = must[..must.len().min(sectors)].to_vec();
+    let mut states = must.to_vec();
     while states.len() < sectors {
         states.push(random.choose(may));
     }
@@ -47,20 +46,19 @@ fn draw_states(random: &mut Random, sectors: usize, without_active: bool) -> Vec
     states
 }
 
-/// Distinct ones near a base, equal ones, steps of ten (for equal points), extremes, any.
+/// Distinct ones near a base, equal ones, extremes, any.
 fn draw_sequences(random: &mut Random, sectors: usize) -> Vec<u32> {
     let base = random.choose(&[0, 1, 2, 7, 0x1000, 0xFFFF_FFE0]);
-    let mode = random.below(16);
+    let mode = random.below(14);
     let mut sequences: Vec<u32> = (0..sectors as u32).map(|sector| base + sector).collect();
     random.shuffle(&mut sequences);
     for sequence in &mut sequences {
         match mode {
             0..=3 => *sequence = base + random.below(3) as u32,
-            4 | 5 => *sequence = base + 10 * random.below(3) as u32,
-            6 => *sequence = random.choose(&[0, 1, 0xFFFF_FFEF, 0xFFFF_FFFD, u32::MAX - 1, u32::MAX]),
-            7 => *sequence = u32::MAX - random.below(7) as u32,
-            8 => *sequence = random.next() as u32,
-            9 => *sequence = random.choose(&[0, 1, 0xFFFF_FFFB, 0xFFFF_FFFC, 0xFFFF_FFFD]),
+            4 => *sequence = random.choose(&[0, 1, 0xFFFF_FFEF, 0xFFFF_FFFD, u32::MAX - 1, u32::MAX]),
+            5 => *sequence = u32::MAX - random.below(7) as u32,
+            6 => *sequence = random.next() as u32,
+            7 => *sequence = random.choose(&[0, 1, 0xFFFF_FFFB, 0xFFFF_FFFC, 0xFFFF_FFFD]),
             _ => {}
         }
     }
@@ -139,12 +137,21 @@ fn draw_pages(random: &mut Random, states: &[State], sequences: &[u32]) -> Vec<D
     drafts
 }
 
-/// Erased counts that make the points of all pages equal, where their sequences lie ten apart.
-fn even_points(drafts: &mut [Draft]) {
-    let Some(least) = drafts.iter().map(|draft| sequence(&draft.sector)).min() else { return };
+/// Equal points on all pages: ten newer for each entry more that is Erased.
+fn even_points(random: &mut Random, drafts: &mut [Draft]) {
     for draft in drafts {
-        let tens = (sequence(&draft.sector) - least) / 10;
-        draft.have_erased(1 + tens.min(20) as usize);
+        let tens = random.below(3);
+        draft.take_header(state(&draft.sector), 2 + 10 * tens as u32);
+        draft.have_erased(3 + tens);
+    }
+}
+
+/// Pages to be erased whole, as old and as new as can be: points at the edge of 32 bits.
+fn extreme_points(random: &mut Random, drafts: &mut [Draft]) {
+    for draft in drafts {
+        let sequence = random.choose(&[0, 0, 0x8000_0000, u32::MAX]);
+        draft.take_header(state(&draft.sector), sequence);
+        draft.have_all(EntryState::Erased);
     }
 }
 
@@ -152,8 +159,9 @@ fn draw_sectors(random: &mut Random, states: &[State], sequences: &[u32]) -> Vec
     let mut drafts = draw_pages(random, states, sequences);
     drafts.iter_mut().for_each(|draft| draft.draw_rest(random));
     match random.below(32) {
-        0 | 1 => even_points(&mut drafts),
-        2 => drafts.iter_mut().for_each(Draft::have_all_written),
+        0 => even_points(random, &mut drafts),
+        1 => drafts.iter_mut().for_each(|draft| draft.have_all(EntryState::Written)),
+        2 => extreme_points(random, &mut drafts),
         _ => {}
     }
     let mut drafts = drafts.into_iter();
@@ -166,52 +174,6 @@ fn draw_sectors(random: &mut Random, states: &[State], sequences: &[u32]) -> Vec
         });
     }
     image
-}
-
-/// An allowance: past 32 bits, none, about the list's length, about a change of stage, a mark or an
-/// erased sector, any.
-pub fn draw_allowance(random: &mut Random, list: &[TaggedStep]) -> u64 {
-    let length = list.len() as u64;
-    let turning = |place: &usize| {
-        let weighty = matches!(list[*place].step, Step::Erase { .. } | Step::Program { word: 0, .. });
-        weighty || list[*place].stage != list[place - 1].stage
-    };
-    match random.below(16) {
-        0..=3 => random.choose(&[u64::MAX, u64::MAX, 1 << 32, (1 << 32) + 1, 1 << 63]),
-        4 => length,
-        5 => length.saturating_sub(1),
-        6 => length + 1,
-        7 => random.below(2) as u64,
-        8..=12 => {
-            let turns: Vec<usize> = (1..list.len()).filter(turning).collect();
-            let turn = if turns.is_empty() { 0 } else { random.choose(&turns) };
-            (turn + random.below(3)).saturating_sub(1) as u64
-        }
-        _ => random.below(list.len() + 1) as u64,
-    }
-}
-
-/// The image that a reclaim or a recovery leaves where power fails.
-fn cut(random: &mut Random, image: &[u8]) -> Vec<u8> {
-    let reclaims = random.once_in(2);
-    let call = |allowance| match reclaims {
-        true => reclaim(image, allowance),
-        false => recover(image, allowance, &mut [None; 16]),
-    };
-    let allowance = draw_allowance(random, &call(u64::MAX).list);
-    call(allowance).image
-}
-
-fn flip_bits(random: &mut Random, image: &mut [u8]) {
-    for _ in 0..1 + random.below(4) {
-        let sector = SECTOR_BYTES * random.below(image.len() / SECTOR_BYTES);
-        let byte = match random.below(3) {
-            0 => random.below(32),
-            1 => 32 + random.below(32),
-            _ => random.below(SECTOR_BYTES),
-        };
-        image[sector + byte] ^= 1 << random.below(8);
-    }
 }
 
 /// An image of 2 to 16 whole sectors. `without_active` leans to images that reclaim does not refuse.

@@ -1,10 +1,12 @@
 //! Draws one sector: a free one, or a page and how its entries are used.
 
+use crate::crc::crc;
 use crate::draw_pieces::Piece;
 use crate::items::CHUNK;
 use crate::random::Random;
 use crate::sector::{
-    page_header, version, EntryState, State, ACTIVE_WORD, ENTRIES, FREEING_WORD, FULL_WORD, SECTOR_BYTES,
+    blank, page_header, state, version, EntryState, State, ACTIVE_WORD, ENTRIES, FREEING_WORD, FULL_WORD,
+    SECTOR_BYTES,
 };
 use crate::writing::{blank_sector, chunk_data, empty_page, key_of, set_entry, set_entry_state, Fields};
 
@@ -31,7 +33,7 @@ pub fn draw_draft(random: &mut Random, state: State, sequence: u32) -> Draft {
     let mut sector = empty_page(state_word(state), sequence, version);
     if random.once_in(16) {
         random.fill(&mut sector[9..28]);
-        let crc = crate::crc::crc(&sector[4..28]);
+        let crc = crc(&sector[4..28]);
         sector[28..32].copy_from_slice(&crc.to_le_bytes());
     }
     if random.once_in(12) {
@@ -45,7 +47,10 @@ pub fn draw_corrupt(random: &mut Random, sequence: u32) -> Vec<u8> {
     let word = random.choose(&[ACTIVE_WORD, FULL_WORD, FREEING_WORD]);
     let mut sector = empty_page(word, sequence, 0xFE);
     match random.below(8) {
-        0 => sector[4 * random.below(8)..].fill(0xFF),
+        0 => {
+            sector[..4].fill(0xFF);
+            sector[4 * (2 + random.below(7))..].fill(0xFF);
+        }
         1 => sector[..4].fill(0xFF),
         2 => sector[..4].copy_from_slice(&random.choose(&[0xFFFF_FFF0u32, 0, 0xFFFF_FFFA]).to_le_bytes()),
         3 => {
@@ -63,8 +68,8 @@ pub fn draw_corrupt(random: &mut Random, sequence: u32) -> Vec<u8> {
         }
         _ => random.fill(&mut sector),
     }
-    // The last byte of all ones could make it Blank again.
-    if random.once_in(4) || crate::sector::blank(&sector) {
+    // Anything beyond the header, and a sector that was drawn Blank after all.
+    if random.once_in(4) || blank(&sector) {
         sector[SECTOR_BYTES - 1] = random.byte() & 0x7F;
     }
     sector
@@ -76,24 +81,25 @@ impl Draft {
         self.sector[..32].copy_from_slice(&header);
     }
 
-    /// All 126 Written, whatever lies there.
-    pub fn have_all_written(&mut self) {
-        self.sector[32..64].fill(0xAA);
+    /// All 126 in one state, whatever lies there.
+    pub fn have_all(&mut self, state: EntryState) {
+        self.next = 0;
+        self.leave(ENTRIES, state);
     }
 
     /// Exactly so many Erased entries, then a Written one, the rest Empty.
     pub fn have_erased(&mut self, count: usize) {
+        self.have_all(EntryState::Empty);
         self.next = 0;
         self.leave(count, EntryState::Erased);
         self.leave(1, EntryState::Written);
-        self.leave(ENTRIES, EntryState::Empty);
     }
 
-    /// False where there is no room.
-    pub fn place(&mut self, random: &mut Random, piece: &Piece) -> bool {
+    /// Leaves the piece out where there is no room.
+    pub fn place(&mut self, random: &mut Random, piece: &Piece) {
         let end = self.next + piece.entries();
         if end > ENTRIES {
-            return false;
+            return;
         }
         set_entry(&mut self.sector, self.next, &piece.header);
         set_entry(&mut self.sector, self.next + 1, &piece.payload);
@@ -102,12 +108,11 @@ impl Draft {
         }
         self.disturb_states(random, self.next, end);
         self.next = end;
-        true
     }
 
     /// Torn states: a copy or an erasure that power cut short, or worse.
     fn disturb_states(&mut self, random: &mut Random, header: usize, end: usize) {
-        let (first, state) = match random.below(24) {
+        let (first, state) = match random.below(40) {
             0 => (header, EntryState::Erased),
             1 => (header, EntryState::Empty),
             2 => (header, EntryState::Illegal),
@@ -133,6 +138,9 @@ impl Draft {
     /// How the rest of the page is used after the last piece.
     pub fn draw_rest(&mut self, random: &mut Random) {
         let rest = ENTRIES - self.next;
+        if state(&self.sector) == State::Active && random.once_in(6) {
+            return self.place_last(random, rest);
+        }
         match random.below(16) {
             0..=2 => self.leave(1 + random.below(4), EntryState::Erased),
             3 => self.leave(rest, EntryState::Erased),
@@ -143,9 +151,9 @@ impl Draft {
                 self.leave(random.below(rest + 1), EntryState::Erased);
                 self.leave(ENTRIES, EntryState::Written);
             }
-            9 | 10 => self.place_last(random, rest),
-            11 => self.sector[32..64].fill(0),
-            12 if random.once_in(4) => random.fill(&mut self.sector[32..64]),
+            9 => self.place_last(random, rest),
+            10 => self.have_all(EntryState::Erased),
+            11 if random.once_in(4) => random.fill(&mut self.sector[32..64]),
             _ => {}
         }
     }

@@ -132,7 +132,7 @@ fn draw_version(random: &mut Random, names: &Names, name: (u8, Key), start: u8) 
 fn draw_blob_fault(random: &mut Random, parts: &mut Vec<Fields>, mut index: Fields) {
     let [a, b, c, d, count, start, ..] = index.data;
     let size = u32::from_le_bytes([a, b, c, d]);
-    match random.below(14) {
+    match random.below(22) {
         0 => return,
         1 => index.data = index_data(size, count.wrapping_sub(1), start),
         2 => index.data = index_data(size, count + 1, start),
@@ -151,7 +151,7 @@ fn draw_blob(random: &mut Random, names: &Names) -> Vec<Piece> {
     let name = (random.choose(&names.namespaces), random.choose(&names.keys));
     let start = random.choose(&[0, 0, 0, 0x80, 0x80, 0x80, 1, 0x7F, 0x81, 0xFF]);
     let mut pieces = draw_version(random, names, name, start);
-    if random.once_in(2) {
+    if !random.once_in(3) {
         pieces.extend(draw_version(random, names, name, start ^ 0x80));
     }
     pieces
@@ -203,9 +203,12 @@ pub fn draw_pieces(random: &mut Random, at_most: usize) -> Vec<Piece> {
             }
         }
     }
-    for piece in &mut pieces {
-        if random.once_in(12) {
-            spoil(random, piece);
+    // Half of the images are left sound, so that whole blobs are not rare.
+    if random.once_in(2) {
+        for piece in &mut pieces {
+            if random.once_in(8) {
+                spoil(random, piece);
+            }
         }
     }
     random.shuffle(&mut pieces);

@@ -44,6 +44,9 @@ fn erase_old(run: &mut Run, found: &[Found], mut group: Vec<&Found>) {
     run.met_if(old.len() > 1, Branch::DuplicateSeveralOld);
     let mut erased = BTreeSet::new();
     for old in old {
+        if !erased.is_empty() {
+            run.met_if_stopped_here(Branch::DuplicateStoppedAfterChunks);
+        }
         notes::duplicate(run, found, old, kept);
         run.erase_entries(old.sector, old.item.entry, old.item.span());
         let kept_has_same_start = kept.item.is_blob_index() && kept.item.start() == old.item.start();

@@ -39,7 +39,7 @@ fn judge_active(run: &mut Run, lists: &mut Lists, active: usize, source: &Page) 
     notes::active_beside_source(run, &lists.pages, &on_active, &on_source);
     if is_copy(&on_active, &on_source) {
         let copy = lists.pages.swap_remove(active);
-        notes::copy_to_erase(run, lists, &copy, source);
+        notes::copy_to_erase(run, lists, active, &copy, source);
         run.erase(copy.sector);
         lists.free.push(copy.sector);
     }
@@ -61,6 +61,7 @@ fn copy_afresh(run: &mut Run, lists: &mut Lists, source: Page, target: usize) {
 
 /// "an erased sector joins at the end" of the free list.
 fn erase_source(run: &mut Run, lists: &mut Lists, source: Page) {
+    notes::source_to_erase(run, &lists.pages);
     run.erase(source.sector);
     lists.free.push(source.sector);
 }

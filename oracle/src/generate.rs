@@ -1,6 +1,7 @@
 //! The generator of cases.
 
-use crate::draw_image::{draw_allowance, draw_image, draw_one_sector};
+use crate::draw_image::{draw_image, draw_one_sector};
+use crate::mishaps::draw_allowance;
 use crate::protocol::{Case, Operation};
 use crate::random::Random;
 use crate::reclaim::reclaim;
@@ -33,12 +34,16 @@ fn draw_records(random: &mut Random, sectors: usize) -> u32 {
     records.min(32) as u32
 }
 
-/// Recovery and reclaim have more to be wrong about: the others are drawn half as often.
+/// Recovery has most to be wrong about, then reclaim: they are drawn four times and twice as often.
 fn draw_operation(random: &mut Random, operations: &[Operation]) -> Operation {
-    match random.choose(operations) {
-        Operation::ItemReader | Operation::Listing if random.once_in(2) => random.choose(operations),
-        operation => operation,
-    }
+    let weight = |operation: &Operation| match operation {
+        Operation::Recover => 4,
+        Operation::Reclaim => 2,
+        Operation::ItemReader | Operation::Listing => 1,
+    };
+    let weighted: Vec<Operation> =
+        operations.iter().flat_map(|operation| vec![*operation; weight(operation)]).collect();
+    random.choose(&weighted)
 }
 
 /// The case of a number: it depends on nothing but the seed, the number and the operations.

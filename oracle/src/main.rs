@@ -16,6 +16,7 @@ mod finish;
 mod generate;
 mod items;
 mod listing;
+mod mishaps;
 mod named;
 mod notes;
 mod protocol;

@@ -3,25 +3,37 @@
 
 use std::collections::BTreeMap;
 
-use crate::blobs::Version;
+use crate::active_order::kept_place;
+use crate::blobs::{Version, Versions};
 use crate::branch::Branch;
 use crate::duplicates::chunks_of;
 use crate::finish::{holds_each, is_copy, newest_has_it_all};
 use crate::items::{items, Item, Key};
 use crate::reclaim::{most_points, Candidate};
-use crate::recover::sequences_run_out;
+use crate::recover::{freeing_pages, sequences_run_out};
 use crate::scan::{greatest, Found, Lists, Page};
 use crate::sector::{blank, state, total, EntryState, State};
 use crate::steps::Run;
 
 /// Recovery's result 6 at its edges, and result 2 before it.
 pub fn sequences(run: &mut Run, lists: &Lists, too_few_records: bool) {
-    let freeing = lists.pages.iter().filter(|page| page.state == State::Freeing).count() as u64;
-    let sum = greatest(&lists.pages).map_or(0, |greatest| u64::from(greatest) + freeing);
+    let freeing = freeing_pages(lists);
+    let sum = greatest(&lists.pages).map_or(0, |greatest| u64::from(greatest) + u64::from(freeing));
     run.met_if(too_few_records && sequences_run_out(lists), Branch::RecoveryResult2Before6);
-    run.met_if(!too_few_records && freeing == 0 && sum >= 0xFFFF_FFFE, Branch::RecoveryTopWithoutFreeing);
+    run.met_if(!too_few_records && freeing == 0 && sum == 0xFFFF_FFFF, Branch::RecoveryTopWithoutFreeing);
     run.met_if(!too_few_records && freeing > 1 && sum == 0xFFFF_FFFE, Branch::RecoveryJustEnough);
     run.met_if(!too_few_records && freeing > 1 && sum == 0xFFFF_FFFF, Branch::RecoveryJustTooMany);
+}
+
+/// The page that stage 1 keeps.
+pub fn kept(run: &mut Run, pages: &[Page]) {
+    let Some(kept) = kept_place(pages) else {
+        return run.met(Branch::OrderNoActive);
+    };
+    let equal = |page: &&Page| page.state == State::Active && page.sequence == pages[kept].sequence;
+    run.met_if(pages.iter().filter(equal).count() > 1, Branch::OrderEqualSequences);
+    let is_last = kept + 1 == pages.len();
+    run.met(if is_last { Branch::OrderKeptIsLast } else { Branch::OrderChangesPlaces });
 }
 
 /// Stage 1 done again, where the list that stage 2 left was another.
@@ -39,17 +51,19 @@ pub fn source_taken(run: &mut Run, pages: &[Page], freeing: usize) {
     run.met_if(lowest != Some(pages[freeing].sector), Branch::FinishSourceOutOfOrder);
 }
 
+fn without_namespace_0(items: &[Item]) -> Vec<Item> {
+    items.iter().filter(|item| item.namespace() != 0).copied().collect()
+}
+
 /// The Active page that is looked at beside a source.
 pub fn active_beside_source(run: &mut Run, pages: &[Page], on_active: &[Item], on_source: &[Item]) {
     let copy = is_copy(on_active, on_source);
     let last = pages.iter().rfind(|page| page.state == State::Active).expect("an Active page");
     let last_is_copy = is_copy(&items(run.sector(last.sector)), on_source);
-    let without_namespace_0: Vec<Item> =
-        on_active.iter().filter(|item| item.namespace() != 0).copied().collect();
     let conditions = [
         (copy != last_is_copy, Branch::FinishFirstActiveDecides),
         (!copy, Branch::FinishActiveNoCopy),
-        (!copy && is_copy(&without_namespace_0, on_source), Branch::FinishNamespace0Decides),
+        (!copy && is_copy(&without_namespace_0(on_active), on_source), Branch::FinishNamespace0Decides),
         (!copy && holds_each(on_source, on_active), Branch::FinishNamesAlike),
         (copy && on_active.is_empty(), Branch::FinishCopyWithoutItem),
         (copy && !on_active.is_empty() && on_active.len() < on_source.len(), Branch::FinishCopyPartial),
@@ -59,13 +73,19 @@ pub fn active_beside_source(run: &mut Run, pages: &[Page], on_active: &[Item], o
     run.met_each(&conditions);
 }
 
-/// A copy just taken out of the list, about to be erased.
-pub fn copy_to_erase(run: &mut Run, lists: &Lists, copy: &Page, source: &Page) {
+/// A copy just taken out of the list at this place, about to be erased.
+pub fn copy_to_erase(run: &mut Run, lists: &Lists, place: usize, copy: &Page, source: &Page) {
+    let mut in_old_order = lists.pages.clone();
+    if place < in_old_order.len() {
+        in_old_order[place..].rotate_left(1);
+    }
+    let first_freeing = |pages: &[Page]| pages.iter().find(|page| page.state == State::Freeing).copied();
     let greatest_left = greatest(lists.pages.iter().chain([source]));
     let no_other_active = lists.pages.iter().all(|page| page.state != State::Active);
     let conditions = [
         (greatest_left < Some(copy.sequence), Branch::FinishCopyHadGreatest),
         (lists.free.is_empty(), Branch::FinishOnlyCopyIsFree),
+        (first_freeing(&in_old_order) != first_freeing(&lists.pages), Branch::FinishCopyPlaceTaken),
         (
             no_other_active && newest_has_it_all(run, &lists.pages, source),
             Branch::FinishNewestNotAskedAfterCopy,
@@ -108,12 +128,10 @@ fn names_held(run: &mut Run, on_newest: &[Item], on_source: &[Item]) {
     let held_by = |alike: &dyn Fn(&Item, &Item) -> bool| {
         on_source.iter().all(|source| on_newest.iter().any(|held| alike(held, source)))
     };
-    let without_namespace_0: Vec<Item> =
-        on_source.iter().filter(|item| item.namespace() != 0).copied().collect();
     let of_type = held_by(&|held, source| holds_each(&[*held], &[*source]) && held.kind() == source.kind());
     let of_key = held_by(&|a, b| (a.namespace(), a.key()) == (b.namespace(), b.key()));
     let conditions = [
-        (!holds && holds_each(on_newest, &without_namespace_0), Branch::NewestNamespace0Decides),
+        (!holds && holds_each(on_newest, &without_namespace_0(on_source)), Branch::NewestNamespace0Decides),
         (!holds && of_key, Branch::NewestChunkIndexDecides),
         (holds && !of_type, Branch::NewestHoldsOtherType),
     ];
@@ -131,10 +149,18 @@ pub fn copied_afresh(run: &mut Run, lists: &Lists, source: &Page, target: usize)
     run.met_each(&conditions);
 }
 
+/// A source about to be erased, where one before it was left for want of a free sector.
+pub fn source_to_erase(run: &mut Run, pages: &[Page]) {
+    let left = |page: &Page| page.state == State::Full && state(run.sector(page.sector)) == State::Freeing;
+    let some_left = pages.iter().any(left);
+    run.met_if(some_left, Branch::FinishAfterLeftSource);
+}
+
 pub fn target_appended(run: &mut Run, pages: &[Page]) {
     let full = pages.last().is_some_and(|target| target.state == State::Full);
     let further_round = pages.iter().any(|page| page.state == State::Freeing);
-    run.met_if(full && further_round, Branch::FinishFullTargetBeforeRound);
+    let no_active = pages.iter().all(|page| page.state != State::Active);
+    run.met_if(full && further_round && no_active, Branch::FinishFullTargetBeforeRound);
 }
 
 fn branch_of_soundness(version: &Version) -> Branch {
@@ -153,45 +179,74 @@ fn branch_of_soundness(version: &Version) -> Branch {
     }
 }
 
-/// A version as stage 3 judges it.
-pub fn version(run: &mut Run, namespace: u8, version: &Version) {
-    let branch = branch_of_soundness(version);
-    run.met(branch);
-    run.met_if(namespace == 0, Branch::BlobNamespace0);
-    let Some(index) = version.index() else { return };
-    let sound_branches =
-        [Branch::BlobSoundEmpty, Branch::BlobSoundOneChunk, Branch::BlobSoundSeveralChunks];
-    let sound = sound_branches.contains(&branch);
-    let others = || version.indices.iter().filter(|&&other| other != index);
-    let sizes = version.summed_sizes();
-    let same_low_bits = sizes & 0xFFFF == index.item.blob_size() & 0xFFFF;
-    let mut chunk_indices: Vec<u8> = version.chunks.iter().map(|chunk| chunk.item.chunk_index()).collect();
-    chunk_indices.sort();
-    chunk_indices.dedup();
-    let conditions = [
-        (others().next().is_some(), Branch::BlobSeveralIndices),
-        (others().any(|other| other.ties_with(index)), Branch::BlobIndicesTie),
-        (!sound && others().next().is_some(), Branch::BlobOlderIndexStays),
-        (!sound && index.item.span() > 1, Branch::BlobIndexOfLongSpan),
-        (!sound && namespace == 0, Branch::BlobNamespace0Erased),
-        (sound && chunk_indices.len() < version.chunks.len(), Branch::BlobSoundSameChunkTwice),
-        (sound && sizes > 0xFFFF, Branch::BlobSoundPast16Bits),
-        (branch == Branch::BlobSizeUnlike && same_low_bits, Branch::BlobSizeUnlikePast16Bits),
-    ];
-    run.met_each(&conditions);
+/// Sound versions that stay, for their keys have no other.
+pub fn sound_versions(run: &mut Run, sound: &Versions) {
+    for ((namespace, start, key), version) in sound {
+        if sound.contains_key(&(*namespace, start ^ 0x80, *key)) {
+            continue;
+        }
+        let mut chunk_indices: Vec<u8> =
+            version.chunks.iter().map(|chunk| chunk.item.chunk_index()).collect();
+        chunk_indices.sort();
+        chunk_indices.dedup();
+        let conditions = [
+            (true, branch_of_soundness(version)),
+            (*namespace == 0, Branch::BlobNamespace0),
+            (chunk_indices.len() < version.chunks.len(), Branch::BlobSoundSameChunkTwice),
+            (version.summed_sizes() > 0xFFFF, Branch::BlobSoundPast16Bits),
+        ];
+        run.met_each(&conditions);
+        several_indices(run, version);
+    }
 }
 
-/// Two sound versions of a key, the first older.
-pub fn older_of_two(run: &mut Run, older: &Version, newer: &Version) {
+fn several_indices(run: &mut Run, version: &Version) {
+    let Some(index) = version.index() else { return };
+    let others = || version.indices.iter().filter(|&&other| other != index);
+    run.met_if(others().next().is_some(), Branch::BlobSeveralIndices);
+    run.met_if(others().any(|other| other.ties_with(index)), Branch::BlobIndicesTie);
+}
+
+/// A version that is about to be erased.
+pub fn unsound_version(run: &mut Run, unsound: &Versions, name: &(u8, u8, Key)) {
+    let (namespace, _, key) = name;
+    let version = &unsound[name];
+    let branch = branch_of_soundness(version);
+    let before = unsound.range(..name).next_back();
+    let greater_key_before = before.is_some_and(|((space, _, other), _)| space == namespace && other > key);
+    let size = version.index().map_or(0, |index| index.item.blob_size());
+    let low_bits_alike = size & 0xFFFF == version.summed_sizes() & 0xFFFF;
+    let long_span = version.index().is_some_and(|index| index.item.span() > 1);
+    let conditions = [
+        (true, branch),
+        (branch == Branch::BlobSizeUnlike && low_bits_alike, Branch::BlobSizeUnlikePast16Bits),
+        (version.indices.len() > 1, Branch::BlobOlderIndexStays),
+        (long_span, Branch::BlobIndexOfLongSpan),
+        (*namespace == 0, Branch::BlobNamespace0Erased),
+    ];
+    run.met_each(&conditions);
+    several_indices(run, version);
+    if greater_key_before {
+        run.met_if_stopped_here(Branch::BlobStoppedStartBeforeKey);
+    }
+}
+
+/// Two sound versions of a key, the first older and about to be erased.
+pub fn older_of_two(run: &mut Run, unsound: &Versions, older: &Version, newer: &Version) {
     let (old, new) = (older.index().expect("sound"), newer.index().expect("sound"));
     let oldest = |version: &Version| version.indices.iter().map(|index| index.newness()).min();
+    let first = |version: &Version| version.indices[0].newness();
     let conditions = [
         (old.item.start() == 0, Branch::BlobOlderStart0),
         (old.item.start() != 0, Branch::BlobOlderStart80),
         (old.ties_with(new), Branch::BlobOlderByList),
-        (oldest(older) > oldest(newer), Branch::BlobOlderByIndexThatCounts),
+        (oldest(older) > oldest(newer) && first(older) > first(newer), Branch::BlobOlderByIndexThatCounts),
     ];
     run.met_each(&conditions);
+    let second = (old.item.namespace(), 0x80, old.item.key());
+    if unsound.range(second..).next().is_some() {
+        run.met_if_stopped_here(Branch::BlobStoppedBeforeOlder);
+    }
 }
 
 /// Items that no walk met as stage 3 began, where stage 4 finds another of their name.
@@ -243,7 +298,7 @@ fn old_index(run: &mut Run, found: &[Found], old: &Found, kept: &Found) {
         ),
         (some && kept_is_index && !same_start, Branch::DuplicateKeptIndexOtherStart),
         (some && !kept_is_index, Branch::DuplicateKeptNoIndex),
-        (!same_start && of_key > chunks.len(), Branch::DuplicateOtherStartStays),
+        (kept_is_index && !same_start && of_key > chunks.len(), Branch::DuplicateOtherStartStays),
     ];
     run.met_each(&conditions);
 }
@@ -269,6 +324,10 @@ pub fn choice(run: &mut Run, pages: &[Page], candidates: &[Candidate], chosen: &
         Candidate { erased, ..*candidate }.points()
     };
     let in_32_bits = |candidate: &Candidate| u64::from(candidate.points() as u32);
+    let in_32_bit_next = |candidate: &Candidate| {
+        let age = (candidate.next as u32).wrapping_sub(candidate.page.sequence);
+        u64::from(candidate.erased.min(1)) * (10 * u64::from(candidate.erased) + u64::from(age))
+    };
     let with_age = |candidate: &Candidate| 10 * u64::from(candidate.erased) + age(candidate);
     let conditions = [
         (most == 0, Branch::ReclaimNoPoints),
@@ -278,6 +337,7 @@ pub fn choice(run: &mut Run, pages: &[Page], candidates: &[Candidate], chosen: &
         (candidates.len() < pages.len(), Branch::ReclaimSkipsWritten),
         (chosen.sector != candidates[0].page.sector, Branch::ReclaimNotTheFirst),
         (greatest(pages) == Some(u32::MAX), Branch::ReclaimNextPast32Bits),
+        (other(&in_32_bit_next), Branch::ReclaimNextPast32BitsDecides),
         (other(&in_32_bits), Branch::ReclaimPointsPast32BitsDecide),
         (other(&with_illegal), Branch::ReclaimIllegalWouldDecide),
         (other(&with_age), Branch::ReclaimAgeWouldDecide),

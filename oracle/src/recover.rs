@@ -10,9 +10,13 @@ use crate::scan::{found, greatest, scan, whole_sectors, Lists};
 use crate::sector::{record, Record, State, SECTOR_BYTES};
 use crate::steps::{call, Outcome, Run, Stage};
 
+pub fn freeing_pages(lists: &Lists) -> u32 {
+    lists.pages.iter().filter(|page| page.state == State::Freeing).count() as u32
+}
+
 /// "recovery: k Freeing pages, k above 0, greatest sequence above 0xFFFFFFFE - k"
 pub fn sequences_run_out(lists: &Lists) -> bool {
-    let freeing = lists.pages.iter().filter(|page| page.state == State::Freeing).count() as u32;
+    let freeing = freeing_pages(lists);
     freeing > 0 && greatest(&lists.pages).is_some_and(|greatest| greatest > 0xFFFF_FFFE - freeing)
 }
 

@@ -1,6 +1,7 @@
 //! The recorded sample: few and small cases that meet every branch.
 
-use std::collections::{BTreeMap, BTreeSet};
+use std::cmp::Reverse;
+use std::collections::BTreeSet;
 
 use crate::branch::Branch;
 use crate::cover::branches_of;
@@ -9,78 +10,86 @@ use crate::named::named_cases;
 use crate::protocol::{Case, Operation};
 
 /// How many generated cases an operation's sample is chosen from, and their seed.
-const CANDIDATES: u64 = 40_000;
+const CANDIDATES: u64 = 100_000;
 const SEED: u64 = 1;
 
-/// 16 sectors.
-const LONGEST: usize = 65_536;
+/// 16 sectors. Document 01 wants one image of this length run, by recovery; longer than six sectors is else
+/// too long for the sample.
+const SIXTEEN_SECTORS: usize = 65_536;
+const LONGEST_OTHER: usize = 24_576;
 
+type Branches = BTreeSet<Branch>;
+
+/// A generated case, without its bytes: its number is enough to make it again.
 struct Candidate {
-    case: Case,
-    branches: BTreeSet<Branch>,
+    number: u64,
+    length: usize,
+    branches: Branches,
 }
 
-fn candidate(case: Case) -> Candidate {
-    let belongs = |branch: &Branch| branch.belongs_to(case.operation);
-    Candidate { branches: branches_of(&case).into_iter().filter(belongs).collect(), case }
+/// Of the branches that a case meets, those that belong to its operation.
+fn own_branches(case: &Case) -> Branches {
+    branches_of(case).into_iter().filter(|branch| branch.operation() == case.operation).collect()
 }
 
-/// The candidates by the length of their images.
-fn candidates(operation: Operation) -> BTreeMap<usize, Vec<Candidate>> {
-    let mut by_length: BTreeMap<usize, Vec<Candidate>> = BTreeMap::new();
-    for number in 0..CANDIDATES {
+fn candidates(operation: Operation) -> Vec<Candidate> {
+    let candidate = |number| {
         let case = case_of(SEED, number, &[operation]);
-        by_length.entry(case.image.len()).or_default().push(candidate(case));
-    }
-    by_length
+        Candidate { number, length: case.image.len(), branches: own_branches(&case) }
+    };
+    (0..CANDIDATES).map(candidate).collect()
 }
 
-/// The place of the case that meets the most new branches; the first among equals; none if none is new.
-fn best(candidates: &[Candidate], met: &BTreeSet<Branch>) -> Option<usize> {
-    let news = |place: &usize| candidates[*place].branches.difference(met).count();
-    let best = (0..candidates.len()).rev().max_by_key(news)?;
-    (news(&best) > 0).then_some(best)
+/// Takes out the case that meets the most new branches for its length; new ones count by their square, so
+/// that a case which meets many at once comes before the shortest. The first among equals.
+fn take_best(candidates: &mut Vec<Candidate>, met: &Branches) -> Option<Candidate> {
+    candidates.retain(|candidate| !candidate.branches.is_subset(met));
+    let worth = |candidate: &Candidate| {
+        let new = candidate.branches.difference(met).count();
+        (1_000_000 * new * new / (candidate.length + 1), Reverse(candidate.number))
+    };
+    let best = (0..candidates.len()).max_by_key(|place| worth(&candidates[*place]))?;
+    Some(candidates.swap_remove(best))
 }
 
-/// Drops each case that the others make needless, the longest images first.
-fn drop_needless(chosen: &mut Vec<Candidate>, met_before: &BTreeSet<Branch>) {
-    for place in (0..chosen.len()).rev() {
-        let others = chosen.iter().enumerate().filter(|(other, _)| *other != place);
-        let mut met = met_before.clone();
-        others.for_each(|(_, candidate)| met.extend(&candidate.branches));
-        if chosen[place].branches.is_subset(&met) {
-            chosen.remove(place);
-        }
-    }
-}
-
-/// Greedy over the candidates, the smallest images first: a greater length is looked at only for branches
-/// that no smaller image met. Recovery's one image of 16 sectors is owed anyhow, so it is chosen before.
-fn choose(operation: Operation, met_before: &BTreeSet<Branch>) -> Vec<Candidate> {
-    let mut met = met_before.clone();
+/// Chooses from the candidates until they have no branch that was not met.
+fn choose(mut candidates: Vec<Candidate>, met: &mut Branches) -> Vec<Candidate> {
     let mut chosen = Vec::new();
-    let mut by_length = candidates(operation);
-    if operation == Operation::Recover {
-        let mut longest = by_length.remove(&LONGEST).expect("some of 40,000 are of 16 sectors");
-        let candidate = longest.swap_remove(best(&longest, &met).expect("meets a branch"));
+    while let Some(candidate) = take_best(&mut candidates, met) {
         met.extend(&candidate.branches);
         chosen.push(candidate);
     }
-    for mut candidates in by_length.into_values() {
-        while let Some(place) = best(&candidates, &met) {
-            let candidate = candidates.swap_remove(place);
-            met.extend(&candidate.branches);
-            chosen.push(candidate);
-        }
-    }
-    drop_needless(&mut chosen, met_before);
     chosen
 }
 
-/// The named cases of an operation, then the chosen ones.
+/// Drops each case that the others make needless, the longest first.
+fn drop_needless(chosen: &mut Vec<Candidate>, met_before: &Branches) {
+    chosen.sort_by_key(|candidate| (Reverse(candidate.length), candidate.number));
+    let mut place = 0;
+    while place < chosen.len() {
+        let candidate = chosen.remove(place);
+        let met: Branches =
+            chosen.iter().flat_map(|other| &other.branches).chain(met_before).copied().collect();
+        if !candidate.branches.is_subset(&met) {
+            chosen.insert(place, candidate);
+            place += 1;
+        }
+    }
+}
+
+/// The named cases of an operation, recovery's case of 16 sectors, then the chosen ones.
 pub fn sample(operation: Operation) -> Vec<Case> {
-    let named: Vec<Candidate> = named_cases(operation).into_iter().map(candidate).collect();
-    let met = named.iter().flat_map(|candidate| candidate.branches.clone()).collect();
-    let chosen = choose(operation, &met);
-    named.into_iter().chain(chosen).map(|candidate| candidate.case).collect()
+    let mut cases = named_cases(operation);
+    let mut met: Branches = cases.iter().flat_map(own_branches).collect();
+    let (mut long, short): (Vec<_>, Vec<_>) =
+        candidates(operation).into_iter().partition(|candidate| candidate.length > LONGEST_OTHER);
+    long.retain(|candidate| operation == Operation::Recover && candidate.length == SIXTEEN_SECTORS);
+    let longest = take_best(&mut long, &met);
+    longest.iter().for_each(|candidate| met.extend(&candidate.branches));
+    let met_before = met.clone();
+    let mut chosen = choose(short, &mut met);
+    drop_needless(&mut chosen, &met_before);
+    let numbers = longest.iter().chain(&chosen).map(|candidate| candidate.number);
+    cases.extend(numbers.map(|number| case_of(SEED, number, &[operation])));
+    cases
 }

@@ -84,6 +84,8 @@ pub struct Run {
     pub stage: Stage,
     /// Each branch met, with the number of steps before it.
     branches: BTreeMap<Branch, usize>,
+    /// Branches that only a call which stops there meets, with the number of steps before.
+    stops: Vec<(Branch, usize)>,
 }
 
 impl Run {
@@ -99,6 +101,10 @@ impl Run {
         if condition {
             self.met(branch);
         }
+    }
+
+    pub fn met_if_stopped_here(&mut self, branch: Branch) {
+        self.stops.push((branch, self.list.len()));
     }
 
     pub fn met_each(&mut self, conditions: &[(bool, Branch)]) {
@@ -215,7 +221,13 @@ pub fn call(
     stage: Stage,
     rules: impl FnOnce(&mut Run) -> Result<(), u8>,
 ) -> Outcome {
-    let mut run = Run { image: image.to_vec(), list: Vec::new(), stage, branches: BTreeMap::new() };
+    let mut run = Run {
+        image: image.to_vec(),
+        list: Vec::new(),
+        stage,
+        branches: BTreeMap::new(),
+        stops: Vec::new(),
+    };
     let refusal = rules(&mut run).err();
     let steps = run.list.len().min(usize::try_from(allowance).unwrap_or(usize::MAX));
     let mut image = image.to_vec();
@@ -224,7 +236,8 @@ pub fn call(
     }
     let ended = steps == run.list.len();
     let come_to = run.branches.into_iter().filter(|(_, before)| ended || *before < steps);
-    let branches = come_to.map(|(branch, _)| branch).collect();
+    let stopped_at = run.stops.into_iter().filter(|(_, before)| !ended && *before == steps);
+    let branches = come_to.chain(stopped_at).map(|(branch, _)| branch).collect();
     let result = refusal.unwrap_or(if ended { 0 } else { 7 });
     Outcome { result, list: run.list, steps, image, branches }
 }
