@@ -5,14 +5,18 @@ use Prim.Native.Nat.{ℕ, zero, suc, _+_, _*_, _/_, _%_, _^_, _<_, _≤_}
 use native.Mathlib.Nat.{mod-lt, zero-add, suc-add}
 use native.Mathlib.Omega.{arith}
 use native.Mathlib.Numerals.{add-one}
-use lib.ListN.{length, drop, getD}
+use mathlib.Core.Bool.{Bool, true, false}
+use borrow.Author.Tests.{ltb-true, ltb-false}
+use lib.Dec.{ltb, lit<}
+use lib.ListN.{length, take, drop, getD, length-take, length-drop, drop-of-length-le, take-append-drop, List·getD-eq-default}
 use lib.Seq.{drop-cons}
 use lib.Pow.{pow-pos, split}
-use Rattle.word.specs.Number.{le}
-use Rattle.word.proofs.Bytes.{le-four}
+use Rattle.word.specs.Number.{part, le}
+use Rattle.word.proofs.Bytes.{le-four, part-byte, le-part}
 use lib.Bits.{bitXor, xor-comm, xor-shifted}
 use Rattle.crc.specs.Crc.{crcBit, crcBits, crcByte, crcFrom}
 use Rattle.crc.proofs.Xor.{xor-assoc}
+use Rattle.crc.proofs.Pieces.{from-append}
 use Rattle.crc.proofs.Linear.{bits-xor, bits-even, bits-split}
 
 pub bits-add : (n m r : ℕ) → crcBits (n + m) r ≡ crcBits m (crcBits n r)
@@ -90,3 +94,35 @@ module _ (s : List ℕ) (i : ℕ) where
   pub byte-turn : (r : ℕ) → i < length s → crcFrom r (drop i s) ≡ crcFrom (crcBits 8 (bitXor r (getD s i 0))) (drop (i + 1) s)
   unfolding crcFrom crcByte
   byte-turn r h = ap (crcFrom r) (drop-cons s i 0 h) ∙ ap (λ (n : ℕ). crcFrom (crcBits 8 (bitXor r (getD s i 0))) (drop n s)) (sym (add-one i))
+
+module _ (s : List ℕ) (at n : ℕ) (small : (j : ℕ) → getD s j 0 < 256) (fits : at + 4 * n ≤ length s) where
+  abbrev piece : List ℕ
+  piece = part s at (4 * n)
+
+  piece-length : length piece ≡ 4 * n
+  piece-length = simp (length-take, length-drop) (omega arith)
+
+  small-piece : (j : ℕ) → getD piece j 0 < 256
+  small-piece j = go (ltb j (4 * n)) refl
+    where
+      go : (b : Bool) → ltb j (4 * n) ≡ b → getD piece j 0 < 256
+      go true e = rw (part-byte s at (4 * n) j (ltb-true j (4 * n) e)) (small (at + j))
+      go false e =
+          let h : length piece ≤ j = omega (arith, piece-length, ltb-false j (4 * n) e) in
+          rw (List·getD-eq-default piece 0 h) (lit< tt)
+
+  -- a turn through the words of a piece
+  pub piece-turn : (k r : ℕ) → k < n → crcFrom r (drop (4 * k) piece) ≡ crcFrom (crcBits 32 (bitXor r (le s (at + 4 * k) 4))) (drop (4 * (k + 1)) piece)
+  piece-turn k r h =
+      let e : 4 * k + 4 ≡ 4 * (k + 1) = omega arith in
+      word-turn piece (4 * k) r small-piece (omega (arith, piece-length))
+      ∙ ap₂ (λ (v m : ℕ). crcFrom (crcBits 32 (bitXor r v)) (drop m piece)) (le-part s at (4 * n) (4 * k) 4 (omega arith)) e
+
+  pub piece-end : (k : ℕ) → n ≤ k → drop (4 * k) piece ≡ []
+  piece-end k h =
+      let l : length piece ≤ 4 * k = omega (arith, piece-length) in
+      drop-of-length-le piece l
+
+-- the words of a list first, and then the rest
+pub words-first : (s : List ℕ) (m r : ℕ) → crcFrom (crcFrom r (part s 0 m)) (drop m s) ≡ crcFrom r s
+words-first s m r = sym (from-append r (take m s) (drop m s)) ∙ ap (crcFrom r) (take-append-drop m s)

@@ -3,8 +3,9 @@
 // The table is a constant array that a call makes once and lends to whatever it calls: an array that is indexed where it stands is stored to the
 // stack at every use.
 ghost use mathlib.Core.Path.{_≡_};
-ghost use Prim.Native.Nat.{_+_, _<_, _≤_};
+ghost use Prim.Native.Nat.{_+_, _*_, _<_, _≤_};
 ghost use lib.ListN.{length};
+ghost use Rattle.word.specs.Number.{part};
 ghost use Rattle.crc.specs.Crc.{crcBits, crcFrom, crcOf, complement};
 ghost use Rattle.crc.specs.Table.{crcTable};
 
@@ -368,19 +369,29 @@ fn one_byte(t: &[u32; 324], x: u32) -> u32
     t[(x % 64 + 256) as usize] ^ ((x1 / 4) ^ t[(x1 % 4 + 320) as usize])
 }
 
-// The register after the bytes of `s`, begun at `from`: a CRC is taken piece by piece.
+// The register after `n` words of `s` from `at` on, begun at `from`: a CRC is taken piece by piece.
+pub fn words(t: &[u32; 324], from: u32, s: &[u8], at: usize, n: usize) -> u32
+    requires { ⌜ (now t ≡ crcTable) × (at + 4 * n ≤ length (now s)) ⌝ }
+    ensures { λ r. ⌜ r ≡ crcFrom from (part (now (s .entry)) at (4 * n)) ⌝ }
+{
+    let mut r = from;
+    let mut k: usize = 0;
+    while k < n {
+        r = four_bytes(t, r ^ word::le32(s, at + 4 * k));
+        k += 1;
+    }
+    r
+}
+
+// The register after the bytes of `s`, begun at `from`: its words, and then the bytes that are left.
 pub fn run(t: &[u32; 324], from: u32, s: &[u8]) -> u32
     requires { ⌜ now t ≡ crcTable ⌝ }
     ensures { λ r. ⌜ r ≡ crcFrom from (now (s .entry)) ⌝ }
 {
-    let mut r = from;
-    let mut i = 0;
+    let n = s.len() / 4;
+    let mut r = words(t, from, s, 0, n);
+    let mut i = 4 * n;
     while i < s.len() {
-        if 4 <= s.len() - i {
-            r = four_bytes(t, r ^ word::le32(s, i));
-            i += 4;
-            continue;
-        }
         r = one_byte(t, r ^ word::wide(s[i]));
         i += 1;
     }

@@ -18,10 +18,8 @@ pub fn entry_crc(t: &[u32; 324], s: &[u8], at: usize) -> u32
     requires { ⌜ (now t ≡ crcTable) × (at + 32 ≤ length (now s)) ⌝ }
     ensures { λ r. ⌜ r ≡ entryCrc (part (now (s .entry)) at 32) ⌝ }
 {
-    let a = at + 4;
-    let b = at + 8;
-    let e = at + 32;
-    crc::finish(crc::run(t, crc::run(t, 0, &s[at..a]), &s[b..e]))
+    let r = crc::words(t, 0, s, at, 1);
+    crc::finish(crc::words(t, r, s, at + 8, 6))
 }
 
 pub fn key_at(s: &[u8], at: usize) -> Key

@@ -98,3 +98,20 @@ module _ (t : List ℕ) where
   pub reading-span : (i : ℕ) (h : ItemHeader) → readingOf t i ≡ Item h → h .span ≡ spanOf (entryAt t i)
   unfolding headerOf
   reading-span i h e = ap (λ (x : ItemHeader). x .span) (reading-item i h e .1)
+
+  -- the walk meets nothing more, or an item at some entry, and goes on behind it
+  pub data Ahead (i : ℕ) : Type 0 where
+    done : walk t 126 i ≡ [] → Ahead i
+    meets : (j : ℕ) → i ≤ j → isItem t j ≡ true → walk t 126 i ≡ laidAt t j ∷ walk t 126 (j + spanOf (entryAt t j)) → Ahead i
+
+  pub ahead : (n i : ℕ) → 126 ≤ i + n → Ahead i
+  ahead zero i h = done (walk-past 126 i (omega arith))
+  ahead (suc n) i h = go (isItem t i) refl (ahead n (i + 1) (omega arith))
+    where
+      later : walk t 126 i ≡ walk t 126 (i + 1) → Ahead (i + 1) → Ahead i
+      later e (done w) = done (e ∙ w)
+      later e (meets j l q w) = meets j (omega arith) q (e ∙ w)
+
+      go : (b : Bool) → isItem t i ≡ b → Ahead (i + 1) → Ahead i
+      go true e a = meets i (omega arith) e (walk-item i e)
+      go false e a = later (walk-skip i e) a

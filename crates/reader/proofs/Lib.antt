@@ -1,2 +1,3 @@
 pub mod Local
 pub mod Told
+pub mod Handed

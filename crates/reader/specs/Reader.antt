@@ -2,12 +2,13 @@
 -- sector has none. A length other than 4,096 is result 1." Assumes nothing.
 use mathlib.Core.Bool.{Bool, cond, _&&_}
 use mathlib.Core.List.{List, [], _∷_}
-use Prim.Native.Nat.{ℕ, _+_}
+use Prim.Native.Nat.{ℕ, zero, suc, _+_}
 use lib.Dec.{eqb}
 use lib.ListN.{length}
 use denote.Ref.{RefT, now}
 use Rattle.entry.specs.Fields.{spanOf}
 use Rattle.page.specs.State.{stateOf, isFree}
+use Rattle.page.specs.declared.walk.ItemHeader.{ItemHeader}
 use Rattle.page.specs.Walk.{Laid, walk, headerOf}
 use Rattle.reader.specs.declared.Found.{Found}
 use Rattle.reader.specs.declared.Found.the-variants.{Item, End, NotSector}
@@ -40,3 +41,13 @@ abbrev pub resultOf : Found → ℕ
 resultOf (Item h) = 0
 resultOf End = 0
 resultOf NotSector = 1
+
+-- what is handed out in n calls from place e on, up to the first answer that is no item
+abbrev pub handOn : Found → List ItemHeader → List ItemHeader
+handOn (Item h) hs = h ∷ hs
+handOn End hs = []
+handOn NotSector hs = []
+
+unfoldable pub handed : List ℕ → ℕ → ℕ → List ItemHeader
+handed s zero e = []
+handed s (suc n) e = handOn (stepAt s e .found) (handed s n (stepAt s e .next))

@@ -1,0 +1,33 @@
+// C names for the benchmark alone: the proved code as it stands, on plain slices. Nothing here is offered to users.
+use reader::Found;
+ghost use mathlib.Core.Path.{_≡_};
+ghost use Prim.Native.Nat.{_≤_};
+ghost use lib.ListN.{length};
+
+// How many items one walk of a whole sector meets.
+#[no_mangle]
+pub extern "C" fn timing_walk(sector: &[u8]) -> usize {
+    if sector.len() != 4096 {
+        return 0;
+    }
+    let t = crc::table();
+    let mut out = [0u16; 126];
+    page::places(&t, sector, 0, &mut out, 0)
+}
+
+// How many items the reader hands out of a sector, one a call.
+#[no_mangle]
+pub extern "C" fn timing_reader(sector: &[u8]) -> usize {
+    let mut count: usize = 0;
+    let mut at: usize = 0;
+    while count < 126 {
+        let step = reader::read_from(sector, at);
+        let found = step.found;
+        let Found::Item(_) = found else {
+            return count;
+        };
+        at = step.next;
+        count += 1;
+    }
+    count
+}
