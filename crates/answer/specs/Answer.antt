@@ -1,0 +1,28 @@
+-- Document 01, Result numbers: the number and the values of each answer. Assumes nothing.
+use Prim.Native.Nat.{ℕ}
+use Rattle.answer.specs.declared.Stage.{Stage}
+use Rattle.answer.specs.declared.Answer.{Answer}
+use Rattle.answer.specs.declared.Answer.the-variants.{Done, NotSectors, FewRecords, ActiveStands, AllWritten, NoFreeSector, SequencesSpent, Stopped, NotReclaimable}
+
+abbrev pub numberOf : Answer → ℕ
+numberOf (Done n) = 0  -- "the list of steps ended"
+numberOf NotSectors = 1  -- "image not 2 to 16 whole sectors"
+numberOf FewRecords = 2  -- "recovery: fewer records than sectors"
+numberOf ActiveStands = 3  -- "reclaim: an Active page stands"
+numberOf AllWritten = 4  -- "reclaim: no page below 126 Written"
+numberOf NoFreeSector = 5  -- "reclaim: a copy is needed, no sector free"
+numberOf SequencesSpent = 6  -- "greatest sequence above 0xFFFFFFFD"; "k Freeing pages .. above 0xFFFFFFFE - k"
+numberOf (Stopped s n) = 7  -- "allowance used up before the end"
+numberOf NotReclaimable = 8  -- "reclaim: chosen page neither Full nor Freeing"
+
+-- the steps made: "nothing changed, 0 steps" for a refusal
+abbrev pub stepsOf : Answer → ℕ
+stepsOf (Done n) = n
+stepsOf NotSectors = 0
+stepsOf FewRecords = 0
+stepsOf ActiveStands = 0
+stepsOf AllWritten = 0
+stepsOf NoFreeSector = 0
+stepsOf SequencesSpent = 0
+stepsOf (Stopped s n) = n
+stepsOf NotReclaimable = 0

@@ -1,0 +1,59 @@
+// What a call answers, and the stages of a stopped one.
+ghost use mathlib.Core.Path.{_≡_};
+ghost use Rattle.answer.specs.Answer.{numberOf, stepsOf};
+
+// The stage of the first step that was not made. Finish names its source sector; reclaim is one stage.
+pub enum Stage {
+    Order,
+    Finish(usize),
+    Blobs,
+    Duplicates,
+    Reclaim,
+}
+
+// Done and Stopped are no refusals: they say how many steps were made.
+pub enum Answer {
+    Done(u64),
+    NotSectors,
+    FewRecords,
+    ActiveStands,
+    AllWritten,
+    NoFreeSector,
+    SequencesSpent,
+    Stopped(Stage, u64),
+    NotReclaimable,
+}
+
+// The number that document 01 gives an answer.
+pub fn number(answer: Answer) -> u8
+    ensures { λ r. ⌜ r ≡ numberOf answer ⌝ }
+{
+    match answer {
+        Answer::Done(_) => 0,
+        Answer::NotSectors => 1,
+        Answer::FewRecords => 2,
+        Answer::ActiveStands => 3,
+        Answer::AllWritten => 4,
+        Answer::NoFreeSector => 5,
+        Answer::SequencesSpent => 6,
+        Answer::Stopped(_, _) => 7,
+        Answer::NotReclaimable => 8,
+    }
+}
+
+// How many steps the call made.
+pub fn steps(answer: Answer) -> u64
+    ensures { λ r. ⌜ r ≡ stepsOf answer ⌝ }
+{
+    match answer {
+        Answer::Done(n) => n,
+        Answer::NotSectors => 0,
+        Answer::FewRecords => 0,
+        Answer::ActiveStands => 0,
+        Answer::AllWritten => 0,
+        Answer::NoFreeSector => 0,
+        Answer::SequencesSpent => 0,
+        Answer::Stopped(_, n) => n,
+        Answer::NotReclaimable => 0,
+    }
+}

@@ -1,0 +1,1 @@
+// Recovery, stage 3: blobs.

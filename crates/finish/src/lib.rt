@@ -1,0 +1,1 @@
+// Recovery, stage 2: finish.

@@ -1,0 +1,1 @@
+// Recovery, stage 1: Active order.

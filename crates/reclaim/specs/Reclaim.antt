@@ -1,0 +1,72 @@
+-- Document 01, Reclaim: points, choice and refusals of a page list ps with its free list fs, and the list of steps for an image l. Assumes nothing.
+use mathlib.Core.Bool.{Bool, true, false, cond}
+use mathlib.Core.Option.{Option, none, some}
+use mathlib.Core.List.{List, [], _∷_, getLast?}
+use Prim.Native.Nat.{ℕ, suc, _+_, _-_, _*_}
+use lib.Dec.{eqb, leb, ltb}
+use Rattle.page.specs.declared.state.PageState.{PageState}
+use Rattle.page.specs.declared.state.PageState.the-variants.{Blank, Corrupt, Active, Full, Freeing}
+use Rattle.flash.specs.Step.{Step, erase, run}
+use Rattle.item.specs.Mark.{markFreeing}
+use Rattle.relocate.specs.Move.{moving}
+use Rattle.answer.specs.declared.Answer.{Answer}
+use Rattle.answer.specs.declared.Answer.the-variants.{ActiveStands, AllWritten, NoFreeSector, SequencesSpent, NotReclaimable}
+use Rattle.lists.specs.Lists.{keep, some-of, best, greatest}
+use Rattle.table.specs.declared.Page.{Page}
+use Rattle.table.specs.Table.{wholeSectors, pages, frees, itemsIn, sequence, activePage}
+
+-- "next one above the greatest sequence, in whole numbers that do not wrap"
+abbrev pub next : List Page → ℕ
+next ps = suc (greatest sequence ps)
+
+-- "Points of a page with fewer than 126 Written entries: 0 if none is Erased, else 10 x Erased + (next - sequence)"
+unfoldable pub points : ℕ → Page → ℕ
+points n p = cond (eqb (p .seen .erased) 0) 0 (10 * p .seen .erased + (n - sequence p))
+
+abbrev pub candidate : Page → Bool
+candidate p = ltb (p .seen .written) 126
+
+-- "Most points win, the last in the list among equals."
+unfoldable pub chosen : List Page → Option Page
+chosen ps = best (λ (y x : Page). leb (points (next ps) x) (points (next ps) y)) (keep candidate ps)
+
+-- result 8: "chosen page neither Full nor Freeing"
+abbrev pub closed : PageState → Bool
+closed Blank = false
+closed Corrupt = false
+closed Active = false
+closed Full = true
+closed Freeing = true
+
+-- what a reclaim is to do
+pub data Plan : Type 0 where
+  -- it is refused
+  refuse : Answer → Plan
+  -- "If all 126 are Erased it is erased."
+  clear : (source : ℕ) → Plan
+  -- "Otherwise mark it Freeing, initialise a free sector with next, copy, erase."
+  move : (source target sequence : ℕ) → Plan
+
+-- "a copy is needed": 5 "no sector free", 6 "greatest sequence above 0xFFFFFFFD"
+unfoldable pub planTo : List Page → Page → Option ℕ → Plan
+planTo ps x none = refuse NoFreeSector
+planTo ps x (some t) = cond (ltb 0xFFFFFFFD (greatest sequence ps)) (refuse SequencesSpent) (move (x .sector) t (next ps))
+
+-- 4 "no page below 126 Written"
+unfoldable pub planWith : List Page → List ℕ → Option Page → Plan
+planWith ps fs none = refuse AllWritten
+planWith ps fs (some x) =
+    cond (closed (x .seen .state)) (cond (eqb (x .seen .erased) 126) (clear (x .sector)) (planTo ps x (getLast? fs))) (refuse NotReclaimable)
+
+-- "reclaim 1, 3, 4, 8, 5, 6; then steps": 3 "an Active page stands"
+unfoldable pub plan : List Page → List ℕ → Plan
+plan ps fs = cond (some-of activePage ps) (refuse ActiveStands) (planWith ps fs (chosen ps))
+
+unfoldable pub planSteps : List ℕ → Plan → List Step
+planSteps l (refuse a) = []
+planSteps l (clear s) = erase s ∷ []
+planSteps l (move s t q) = let m = run (markFreeing s ∷ []) l in markFreeing s ∷ moving s t q (itemsIn s m) m
+
+-- the steps of a call: a refused one makes none
+unfoldable pub reclaiming : List ℕ → List Step
+reclaiming l = cond (wholeSectors l) (planSteps l (plan (pages l) (frees l))) []

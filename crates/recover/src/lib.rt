@@ -1,0 +1,1 @@
+// Recovery: the stages in sequence.
