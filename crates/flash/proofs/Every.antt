@@ -10,6 +10,10 @@ Every P [] = Unit {0}
 Every P (s ∷ ss) = P s × Every P ss
 
 module _ (P : Step → Type 0) where
+  pub every-none : Every P []
+  unfolding Every
+  every-none = tt
+
   pub every-one : (s : Step) → P s → Every P (s ∷ [])
   unfolding Every
   every-one s h = (h, tt)

@@ -78,8 +78,16 @@ module _ (a b : ℕ) where
   pub did-kept : {ss : List Step} {k : ℕ} {l m : List ℕ} {r : Ran} (p n : ℕ) → AllIn a b ss → (p + n ≤ a) ⊎ (b ≤ p) → Did ss k l m r → part m p n ≡ part l p n
   did-kept {ss} {k} {l} p n h o d = rw (d .image) (part-kept p n (take k ss) l (every-take (In a b) k ss h) o)
 
+-- two sectors do not meet
+pub apart : (s t : ℕ) → (s ≡ t → ⊥) → (s * 4096 + 4096 ≤ t * 4096) ⊎ (t * 4096 + 4096 ≤ s * 4096)
+apart s t ne = ⊎-elim (λ g. inl (omega arith)) (λ g. inr (omega arith)) (le-or-gt s t)
+
 -- steps in sector t leave sector s
 pub sector-kept : (s t : ℕ) (ss : List Step) (l : List ℕ) → (s ≡ t → ⊥) → AllIn (t * 4096) (t * 4096 + 4096) ss → sector s (run ss l) ≡ sector s l
 unfolding sector
-sector-kept s t ss l ne h =
-    part-kept (t * 4096) (t * 4096 + 4096) (s * 4096) 4096 ss l h (⊎-elim (λ g. inl (omega arith)) (λ g. inr (omega arith)) (le-or-gt s t))
+sector-kept s t ss l ne h = part-kept (t * 4096) (t * 4096 + 4096) (s * 4096) 4096 ss l h (apart s t ne)
+
+-- and so does what a call did there
+pub did-sector : {ss : List Step} {k : ℕ} {l m : List ℕ} {r : Ran} (s t : ℕ) → (s ≡ t → ⊥) → AllIn (t * 4096) (t * 4096 + 4096) ss → Did ss k l m r → sector s m ≡ sector s l
+unfolding sector
+did-sector s t ne h d = did-kept (t * 4096) (t * 4096 + 4096) (s * 4096) 4096 h (apart s t ne) d
