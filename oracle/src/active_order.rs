@@ -30,7 +30,7 @@ pub fn active_order(run: &mut Run, pages: &mut [Page]) {
     }
     let kept = &mut pages[last];
     if total(run.sector(kept.sector), EntryState::Empty) == 0 {
-        run.met(Branch::OrderMarksKept);
+        notes::kept_to_mark(run, kept.sector);
         run.mark_full(kept.sector);
         kept.state = State::Full;
     }

@@ -25,7 +25,7 @@ impl<'a> Version<'a> {
     }
 
     /// Not so: "No index [..] Chunk count or summed chunk sizes unlike the index".
-    fn sound(&self) -> bool {
+    pub fn sound(&self) -> bool {
         self.index().is_some_and(|index| {
             self.chunks.len() == index.item.chunk_count() && self.summed_sizes() == index.item.blob_size()
         })
@@ -80,7 +80,7 @@ pub fn blobs(run: &mut Run, found: &[Found]) {
         versions(found).into_iter().partition(|(_, version)| version.sound());
     notes::sound_versions(run, &sound);
     for (name, version) in &unsound {
-        notes::unsound_version(run, &unsound, name);
+        notes::unsound_version(run, &sound, &unsound, name);
         version.erase(run);
     }
     for [older, newer] in sound_pairs(&sound) {

@@ -58,10 +58,15 @@ pub fn decode_all(mut input: &[u8]) -> io::Result<Vec<Case>> {
     Ok(cases)
 }
 
+/// The same error, with the name of what it is about.
+fn about<'a>(name: &'a str) -> impl Fn(io::Error) -> io::Error + 'a {
+    move |error| io::Error::new(error.kind(), format!("{name}: {error}"))
+}
+
 /// Recorded cases and answers. The answer: whether all are alike.
 pub fn check(input: &str, output: &str) -> io::Result<bool> {
-    let cases = decode_all(&fs::read(input)?)?;
-    let given = fs::read(output)?;
+    let cases = decode_all(&fs::read(input).map_err(about(input))?)?;
+    let given = fs::read(output).map_err(about(output))?;
     let count = cases.len();
     match hold_against_model(&cases, &given) {
         Ok(left_over) => {
@@ -79,7 +84,11 @@ pub fn check(input: &str, output: &str) -> io::Result<bool> {
 /// Feeds the input from a thread of its own: a program that answers before it has read all would
 /// otherwise wait for us while we wait for it.
 fn answers_of(program: &str, input: Vec<u8>) -> io::Result<(Vec<u8>, bool)> {
-    let mut child = Command::new(program).stdin(Stdio::piped()).stdout(Stdio::piped()).spawn()?;
+    let mut child = Command::new(program)
+        .stdin(Stdio::piped())
+        .stdout(Stdio::piped())
+        .spawn()
+        .map_err(about(program))?;
     let mut stdin = child.stdin.take().expect("piped");
     // A program that ends early closes its input: its answers show that, so the error is dropped here.
     let feeder = thread::spawn(move || stdin.write_all(&input).is_ok());
@@ -111,7 +120,11 @@ fn compare_batch(program: &str, cases: &[Case], first: u64, seed: u64) -> io::Re
             println!("{left_over} bytes left over, the program ended well: {ended_well}");
             Ok(false)
         }
-        Err(difference) => report(&difference, first, seed).map(|()| false),
+        Err(difference) => {
+            report(&difference, first, seed)?;
+            println!("the program ended well: {ended_well}");
+            Ok(false)
+        }
     }
 }
 

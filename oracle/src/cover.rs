@@ -221,7 +221,7 @@ fn branches_of_stop(case: &Case, outcome: &Outcome) -> Branches {
         (of_stage(Stage::Blobs) && descends, Branch::RecoveryStoppedInErasure),
         (of_stage(Stage::Blobs) && !descends, Branch::RecoveryStoppedBetween3),
         (of_stage(Stage::Duplicates) && !descends, Branch::RecoveryStoppedBetween4),
-        (next.stage == Stage::Duplicates && next_word == 0, Branch::RecoveryStoppedBeforeFull),
+        (stage == Stage::Blobs && next_word == 0, Branch::RecoveryStoppedBeforeFull),
     ])
 }
 

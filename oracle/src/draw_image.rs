@@ -87,13 +87,13 @@ fn pieces_of(page: &[u8]) -> Vec<Piece> {
     items(page).into_iter().map(whole).collect()
 }
 
-/// Makes a page from another: often an Active or Full one beside a Freeing source, of a sequence near to it.
+/// Makes a page from another: often one beside a Freeing source, of a sequence near to it.
 fn draw_twin(random: &mut Random, source: &mut Draft, twin: &mut Draft) {
     if random.once_in(2) {
         let old = sequence(&source.sector);
         let new = random.choose(&[old, old.saturating_add(1), sequence(&twin.sector)]);
         source.take_header(State::Freeing, old);
-        twin.take_header(random.choose(&[State::Active, State::Active, State::Full]), new);
+        twin.take_header(random.choose(&[State::Active, State::Active, State::Full, State::Freeing]), new);
     } else {
         twin.take_header(state(&twin.sector), sequence(&source.sector));
     }

@@ -138,7 +138,7 @@ impl Draft {
     /// How the rest of the page is used after the last piece.
     pub fn draw_rest(&mut self, random: &mut Random) {
         let rest = ENTRIES - self.next;
-        if state(&self.sector) == State::Active && random.once_in(6) {
+        if state(&self.sector) == State::Active && random.once_in(4) {
             return self.place_last(random, rest);
         }
         match random.below(16) {
@@ -166,7 +166,7 @@ impl Draft {
         }
         let fields = Fields {
             namespace: random.choose(&[1, 1, 2]),
-            kind: random.choose(&[CHUNK, 0x01, 0x21]),
+            kind: random.choose(&[CHUNK, CHUNK, 0x01, 0x21]),
             span: (rest + usize::from(random.once_in(5))) as u8,
             chunk_index: random.choose(&[0, 0x80, 0xFF]),
             key: random.choose(&[key_of("a"), key_of("b")]),

@@ -57,10 +57,10 @@ fn draw_names(random: &mut Random) -> Names {
 
 fn draw_span(random: &mut Random) -> u8 {
     match random.below(40) {
-        0 => 126,
-        1 => 125,
-        2 => 1 + random.below(126) as u8,
-        3 | 4 => 1 + random.below(40) as u8,
+        0 | 1 => 126,
+        2 => 125,
+        3 => 1 + random.below(126) as u8,
+        4 => 1 + random.below(40) as u8,
         5..=12 => 2 + random.below(4) as u8,
         _ => 1,
     }

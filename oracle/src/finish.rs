@@ -48,10 +48,10 @@ fn judge_active(run: &mut Run, lists: &mut Lists, active: usize, source: &Page) 
 /// "Otherwise initialise a free sector with sequence one above the greatest among the list and the source,
 /// copy the source's items in walk order, append the target, erase the source."
 fn copy_afresh(run: &mut Run, lists: &mut Lists, source: Page, target: usize) {
-    notes::copied_afresh(run, lists, &source, target);
     // Result 6 was judged before: there is a sequence above the greatest.
     let sequence = greatest(lists.pages.iter().chain([&source])).expect("the source") + 1;
     run.initialise(target, sequence);
+    notes::copied_afresh(run, lists, &source, target);
     run.copy_items(source.sector, target);
     let state = state(run.sector(target));
     lists.pages.push(Page { sector: target, state, sequence });

@@ -12,7 +12,7 @@ use crate::items::{items, Item, Key};
 use crate::reclaim::{most_points, Candidate};
 use crate::recover::{freeing_pages, sequences_run_out};
 use crate::scan::{greatest, Found, Lists, Page};
-use crate::sector::{blank, state, total, EntryState, State};
+use crate::sector::{state, total, EntryState, State};
 use crate::steps::Run;
 
 /// Recovery's result 6 at its edges, and result 2 before it.
@@ -34,6 +34,12 @@ pub fn kept(run: &mut Run, pages: &[Page]) {
     run.met_if(pages.iter().filter(equal).count() > 1, Branch::OrderEqualSequences);
     let is_last = kept + 1 == pages.len();
     run.met(if is_last { Branch::OrderKeptIsLast } else { Branch::OrderChangesPlaces });
+}
+
+pub fn kept_to_mark(run: &mut Run, sector: usize) {
+    let illegal = total(run.sector(sector), EntryState::Illegal);
+    run.met(Branch::OrderMarksKept);
+    run.met_if(illegal > 0, Branch::OrderMarksKeptIllegal);
 }
 
 /// Stage 1 done again, where the list that stage 2 left was another.
@@ -143,7 +149,6 @@ pub fn copied_afresh(run: &mut Run, lists: &Lists, source: &Page, target: usize)
     let conditions = [
         (true, Branch::FinishCopiedAfresh),
         (of_list.is_some() && of_list < Some(source.sequence), Branch::FinishSourceHasGreatest),
-        (blank(run.sector(target)), Branch::FinishTargetBlank),
         (lists.free.iter().any(|free| *free > target), Branch::FinishTargetOutOfOrder),
     ];
     run.met_each(&conditions);
@@ -156,11 +161,16 @@ pub fn source_to_erase(run: &mut Run, pages: &[Page]) {
     run.met_if(some_left, Branch::FinishAfterLeftSource);
 }
 
+/// A target just appended, last of the list. Where it is Full and holds all of the next source, it is the
+/// newest page that the next round asks.
 pub fn target_appended(run: &mut Run, pages: &[Page]) {
-    let full = pages.last().is_some_and(|target| target.state == State::Full);
-    let further_round = pages.iter().any(|page| page.state == State::Freeing);
+    let target = pages.last().expect("just appended");
+    let on_target = items(run.sector(target.sector));
+    let holds = |source: &Page| holds_each(&on_target, &items(run.sector(source.sector)));
+    let next_source = pages.iter().find(|page| page.state == State::Freeing);
     let no_active = pages.iter().all(|page| page.state != State::Active);
-    run.met_if(full && further_round && no_active, Branch::FinishFullTargetBeforeRound);
+    let asked = target.state == State::Full && no_active && next_source.is_some_and(holds);
+    run.met_if(asked, Branch::FinishFullTargetHoldsNext);
 }
 
 fn branch_of_soundness(version: &Version) -> Branch {
@@ -203,13 +213,18 @@ pub fn sound_versions(run: &mut Run, sound: &Versions) {
 fn several_indices(run: &mut Run, version: &Version) {
     let Some(index) = version.index() else { return };
     let others = || version.indices.iter().filter(|&&other| other != index);
+    let alone = |index| Version { indices: vec![index], chunks: version.chunks.clone() };
+    let last = version.indices[version.indices.len() - 1];
+    run.met_if(alone(last).sound() != version.sound(), Branch::BlobLastIndexWouldDecide);
     run.met_if(others().next().is_some(), Branch::BlobSeveralIndices);
     run.met_if(others().any(|other| other.ties_with(index)), Branch::BlobIndicesTie);
 }
 
 /// A version that is about to be erased.
-pub fn unsound_version(run: &mut Run, unsound: &Versions, name: &(u8, u8, Key)) {
-    let (namespace, _, key) = name;
+pub fn unsound_version(run: &mut Run, sound: &Versions, unsound: &Versions, name: &(u8, u8, Key)) {
+    let (namespace, start, key) = name;
+    let other_start = (*namespace, start ^ 0x80, *key);
+    let only_of_key = !sound.contains_key(&other_start) && !unsound.contains_key(&other_start);
     let version = &unsound[name];
     let branch = branch_of_soundness(version);
     let before = unsound.range(..name).next_back();
@@ -218,7 +233,7 @@ pub fn unsound_version(run: &mut Run, unsound: &Versions, name: &(u8, u8, Key)) 
     let low_bits_alike = size & 0xFFFF == version.summed_sizes() & 0xFFFF;
     let long_span = version.index().is_some_and(|index| index.item.span() > 1);
     let conditions = [
-        (true, branch),
+        (only_of_key, branch),
         (branch == Branch::BlobSizeUnlike && low_bits_alike, Branch::BlobSizeUnlikePast16Bits),
         (version.indices.len() > 1, Branch::BlobOlderIndexStays),
         (long_span, Branch::BlobIndexOfLongSpan),

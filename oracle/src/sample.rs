@@ -28,7 +28,7 @@ struct Candidate {
 }
 
 /// Of the branches that a case meets, those that belong to its operation.
-fn own_branches(case: &Case) -> Branches {
+pub fn own_branches(case: &Case) -> Branches {
     branches_of(case).into_iter().filter(|branch| branch.operation() == case.operation).collect()
 }
 

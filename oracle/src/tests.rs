@@ -1,8 +1,10 @@
 //! The model against cases worked by hand, and against recorded vectors where VECTORS names their folder.
 
-use std::path::PathBuf;
+use std::collections::BTreeSet;
+use std::path::Path;
 
-use crate::compare::check;
+use crate::branch::Branch;
+use crate::compare::{check, decode_all};
 use crate::crc::crc;
 use crate::generate::case_of;
 use crate::items::{items, start_of_byte, walk, Met};
@@ -12,6 +14,7 @@ use crate::named::{active_non_copy_beside_freeing, equal_sequences, listing_exam
 use crate::protocol::Operation;
 use crate::reclaim::{reclaim, Candidate};
 use crate::recover::recover;
+use crate::sample::own_branches;
 use crate::scan::Page;
 use crate::sector::{entry_state, state, EntryState, State, FREEING_WORD, FULL_WORD};
 use crate::steps::{apply, sector_of, Stage, Step};
@@ -150,17 +153,43 @@ fn an_active_page_that_is_no_copy_stays() {
 fn the_generator_is_fixed() {
     let mut bytes = Vec::new();
     (0..200).for_each(|number| case_of(1, number, &Operation::ALL).encode(&mut bytes));
-    assert_eq!(crc(&bytes), 0x148F_1B59);
+    assert_eq!(crc(&bytes), 0x15B1_079B);
+}
+
+/// By the numbers of the operations.
+const FILES: [&str; 4] = ["recover", "reclaim", "items", "listing"];
+
+fn file_of(folder: &Path, name: &str, kind: &str) -> String {
+    folder.join(format!("{name}.{kind}")).display().to_string()
+}
+
+fn check_folder(folder: &Path) {
+    for name in FILES {
+        let (input, output) = (file_of(folder, name, "in"), file_of(folder, name, "out"));
+        assert!(check(&input, &output).expect("readable files"), "{name}");
+    }
 }
 
 #[test]
 fn the_vectors_agree() {
-    let Some(folder) = std::env::var_os("VECTORS").map(PathBuf::from) else {
-        println!("VECTORS names no folder: not run");
-        return;
-    };
-    for name in ["items", "reclaim", "recover", "listing"] {
-        let file = |kind: &str| folder.join(format!("{name}.{kind}")).display().to_string();
-        assert!(check(&file("in"), &file("out")).expect("readable files"), "{name}");
+    match std::env::var_os("VECTORS") {
+        Some(folder) => check_folder(Path::new(&folder)),
+        None => println!("VECTORS names no folder: not run"),
     }
+}
+
+/// Each branch is met by the sample of its operation, and the recorded answers are the model's.
+#[test]
+fn the_recorded_sample_meets_every_branch() {
+    let folder = Path::new(env!("CARGO_MANIFEST_DIR")).join("sample");
+    check_folder(&folder);
+    let mut unmet: BTreeSet<Branch> = Branch::ALL.iter().copied().collect();
+    unmet.remove(&Branch::ReclaimResult8);
+    for name in FILES {
+        let input = std::fs::read(file_of(&folder, name, "in")).expect("readable files");
+        for case in decode_all(&input).expect("whole cases") {
+            unmet = &unmet - &own_branches(&case);
+        }
+    }
+    assert_eq!(unmet, BTreeSet::new());
 }
