@@ -11,6 +11,8 @@ use Rattle.item.specs.Mark.{markFreeing}
 use Rattle.relocate.specs.Move.{moving}
 use Rattle.answer.specs.declared.Answer.{Answer}
 use Rattle.answer.specs.declared.Answer.the-variants.{ActiveStands, AllWritten, NoFreeSector, SequencesSpent, NotReclaimable}
+use Rattle.reclaim.specs.declared.plan.Plan.{Plan}
+use Rattle.reclaim.specs.declared.plan.Plan.the-variants.{Refuse, Clear, Move}
 use Rattle.lists.specs.Lists.{keep, some-of, best, greatest}
 use Rattle.table.specs.declared.Page.{Page}
 use Rattle.table.specs.Table.{wholeSectors, pages, frees, itemsIn, sequence, activePage}
@@ -38,34 +40,26 @@ closed Active = false
 closed Full = true
 closed Freeing = true
 
--- what a reclaim is to do
-pub data Plan : Type 0 where
-  -- it is refused
-  refuse : Answer → Plan
-  -- "If all 126 are Erased it is erased."
-  clear : (source : ℕ) → Plan
-  -- "Otherwise mark it Freeing, initialise a free sector with next, copy, erase."
-  move : (source target sequence : ℕ) → Plan
-
 -- "a copy is needed": 5 "no sector free", 6 "greatest sequence above 0xFFFFFFFD"
 unfoldable pub planTo : List Page → Page → Option ℕ → Plan
-planTo ps x none = refuse NoFreeSector
-planTo ps x (some t) = cond (ltb 0xFFFFFFFD (greatest sequence ps)) (refuse SequencesSpent) (move (x .sector) t (next ps))
+planTo ps x none = Refuse NoFreeSector
+planTo ps x (some t) = cond (ltb 0xFFFFFFFD (greatest sequence ps)) (Refuse SequencesSpent) (Move (x .sector) t (next ps))
 
--- 4 "no page below 126 Written"
+-- "If all 126 are Erased it is erased. Otherwise" a copy is needed; 4 "no page below 126 Written"
 unfoldable pub planWith : List Page → List ℕ → Option Page → Plan
-planWith ps fs none = refuse AllWritten
+planWith ps fs none = Refuse AllWritten
 planWith ps fs (some x) =
-    cond (closed (x .seen .state)) (cond (eqb (x .seen .erased) 126) (clear (x .sector)) (planTo ps x (getLast? fs))) (refuse NotReclaimable)
+    cond (closed (x .seen .state)) (cond (eqb (x .seen .erased) 126) (Clear (x .sector)) (planTo ps x (getLast? fs))) (Refuse NotReclaimable)
 
 -- "reclaim 1, 3, 4, 8, 5, 6; then steps": 3 "an Active page stands"
 unfoldable pub plan : List Page → List ℕ → Plan
-plan ps fs = cond (some-of activePage ps) (refuse ActiveStands) (planWith ps fs (chosen ps))
+plan ps fs = cond (some-of activePage ps) (Refuse ActiveStands) (planWith ps fs (chosen ps))
 
+-- "mark it Freeing, initialise a free sector with next, copy, erase"
 unfoldable pub planSteps : List ℕ → Plan → List Step
-planSteps l (refuse a) = []
-planSteps l (clear s) = erase s ∷ []
-planSteps l (move s t q) = let m = run (markFreeing s ∷ []) l in markFreeing s ∷ moving s t q (itemsIn s m) m
+planSteps l (Refuse a) = []
+planSteps l (Clear s) = erase s ∷ []
+planSteps l (Move s t q) = let m = run (markFreeing s ∷ []) l in markFreeing s ∷ moving s t q (itemsIn s m) m
 
 -- the steps of a call: a refused one makes none
 unfoldable pub reclaiming : List ℕ → List Step

@@ -1,9 +1,10 @@
 -- Document 01, Recovery: "Page list: sectors ascending. Free list the same; the last is taken first, and an erased sector joins at the end." Assumes nothing.
 use mathlib.Core.Bool.{Bool, true, false, cond, _&&_}
 use mathlib.Core.List.{List, [], _∷_, _++_}
-use Prim.Native.Nat.{ℕ, zero, suc, _*_, _/_, _%_}
+use Prim.Native.Nat.{ℕ, zero, suc, _≤_, _*_, _/_, _%_}
 use lib.Dec.{eqb, leb}
-use lib.ListN.{length}
+use mathlib.Core.Path.{_≡_}
+use lib.ListN.{length, take}
 use Rattle.flash.specs.Step.{sector}
 use Rattle.page.specs.declared.state.PageState.{PageState}
 use Rattle.page.specs.declared.state.PageState.the-variants.{Blank, Corrupt, Active, Full, Freeing}
@@ -12,6 +13,7 @@ use Rattle.page.specs.State.{stateOf, isFree}
 use Rattle.page.specs.Record.{recordOf}
 use Rattle.page.specs.Walk.{Laid, walk}
 use Rattle.table.specs.declared.Page.{Page}
+use Rattle.table.specs.declared.Table.{Table}
 
 -- "image not 2 to 16 whole sectors" is result 1
 abbrev pub sectorsOf : List ℕ → ℕ
@@ -77,3 +79,10 @@ asFull p =
       sector = p .sector;
       seen = record { state = Full; sequence = p .seen .sequence; written = p .seen .written; erased = p .seen .erased; empty = p .seen .empty; illegal = p .seen .illegal };
     }
+
+-- "a table by value of at most 16 pages": it holds the page list ps and the free list fs
+pub record Holds (t : Table) (ps : List Page) (fs : List ℕ) : Type 0 where
+  pub list : take (t .count) (t .pages) ≡ ps
+  pub free : take (t .«free_count») (t .free) ≡ fs
+  pub some : t .count ≤ 16
+  pub frees : t .«free_count» ≤ 16
