@@ -21,7 +21,7 @@ shift1 a (erase s) = erase s
 abbrev pub shift : ℕ → List Step → List Step
 shift a ss = map (shift1 a) ss
 
--- the step programs a word of n bytes
+-- the step programs a word that lies within n bytes
 abbrev pub Fit : ℕ → Step → Type 0
 Fit n (program at b0 b1 b2 b3) = at + 4 ≤ n
 Fit n (erase s) = ⊥

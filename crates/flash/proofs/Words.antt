@@ -38,11 +38,11 @@ module _ (at : ℕ) (e : List ℕ) where
   words-fit m k zero h = tt
   words-fit m k (suc n) h = (omega arith, words-fit m (k + 1) n (omega arith))
 
-  pub words-shift : (a k n : ℕ) → shift a (words at e k n) ≡ words (a + at) e k n
+  pub words-shift : (a k n : ℕ) → words (a + at) e k n ≡ shift a (words at e k n)
   unfolding words
   words-shift a k zero = refl
   words-shift a k (suc n) =
-      let i : a + (at + k * 4) ≡ a + at + k * 4 = omega arith in
+      let i : a + at + k * 4 ≡ a + (at + k * 4) = omega arith in
       rw (i, words-shift a (k + 1) n)
 
   -- one word programmed on a blank byte leaves its byte

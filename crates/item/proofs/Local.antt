@@ -20,9 +20,6 @@ use Rattle.item.proofs.Spans.{marking-every, unmarking-every}
 -- ---- shifted
 
 module _ (a : ℕ) where
-  words-from : (at : ℕ) (e : List ℕ) (k n : ℕ) → words (a + at) e k n ≡ shift a (words at e k n)
-  words-from at e k n = sym (words-shift at e a k n)
-
   up-shift : (j n d w k : ℕ) → statesUp a j n d w k ≡ shift a (statesUp 0 j n d w k)
   unfolding statesUp
   up-shift j n d w zero = refl
@@ -57,12 +54,12 @@ module _ (a : ℕ) where
   unfolding copying
   copying-shift j r =
       let i : a + 64 + j * 32 ≡ a + (64 + j * 32) = omega arith in
-      rw (i, words-from (64 + j * 32) r 0 (spanOf r * 8), marking-shift j (spanOf r), full-shift (j + spanOf r), shift-append a, shift-append a)
+      rw (i, words-shift (64 + j * 32) r a 0 (spanOf r * 8), marking-shift j (spanOf r), full-shift (j + spanOf r), shift-append a, shift-append a)
 
   -- the words of a header
   pub header-shift : (h : List ℕ) → words a h 1 7 ++ words a h 0 1 ≡ shift a (words 0 h 1 7 ++ words 0 h 0 1)
   header-shift h =
-      let at : (k n : ℕ) → words a h k n ≡ shift a (words 0 h k n) = λ k n. ap (λ (x : ℕ). words x h k n) (sym (add-zero a)) ∙ words-from 0 h k n in
+      let at : (k n : ℕ) → words a h k n ≡ shift a (words 0 h k n) = λ k n. ap (λ (x : ℕ). words x h k n) (sym (add-zero a)) ∙ words-shift 0 h a k n in
       rw (at 1 7, at 0 1, shift-append a)
 
 pub erasing-shift : (s i n : ℕ) → erasing s i n ≡ shift (s * 4096) (unmarking 0 i n)

@@ -1,4 +1,4 @@
-// Move a page: its items go to a fresh sector, and then it is erased. Whatever the steps are cut short, the items stand on one of the two.
+// Move a page: its items are copied to a fresh sector, and only then is it erased. Wherever the steps are cut, one of the two has all the items.
 use flash::Ran;
 use page::Reading;
 ghost use mathlib.Core.Path.{_≡_};
