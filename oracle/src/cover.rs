@@ -12,36 +12,26 @@ use crate::reclaim::reclaim;
 use crate::recover::recover;
 use crate::scan::scan;
 use crate::sector::{
-    blank, entry_state, header_crc_right, number, record, state, state_of_word, version, version_known,
-    EntryState, Record, State, ENTRIES, ENTRY_BYTES, SECTOR_BYTES,
+    blank, entry_state, free, header_crc_right, number, record, state, state_of_word, version,
+    version_known, EntryState, Record, State, ENTRIES, ENTRY_BYTES, SECTOR_BYTES,
 };
 use crate::steps::{Outcome, Stage, Step, TaggedStep};
 
 type Branches = BTreeSet<Branch>;
 
-/// Every branch that a case meets. Where the call is refused before it reads a sector, none of reading one.
+/// Every branch that a case meets.
 pub fn branches_of(case: &Case) -> Branches {
-    let mut met = match case.operation {
+    match case.operation {
         Operation::Recover => branches_of_recovery(case),
         Operation::Reclaim => branches_of_reclaim(case),
         Operation::ItemReader => branches_of_reader(case),
         Operation::Listing => branches_of_listing(case),
-    };
-    if met.is_disjoint(&BTreeSet::from(REFUSED_UNREAD)) {
-        for sector in case.image.chunks_exact(SECTOR_BYTES) {
-            met.extend(branches_of_sector(sector));
-        }
     }
-    met
 }
 
-const REFUSED_UNREAD: [Branch; 5] = [
-    Branch::RecoveryResult1,
-    Branch::RecoveryResult2,
-    Branch::ReclaimResult1,
-    Branch::ReaderResult1,
-    Branch::ListingResult1,
-];
+fn sectors(image: &[u8]) -> impl Iterator<Item = &[u8]> {
+    image.chunks_exact(SECTOR_BYTES)
+}
 
 fn branches_of_sector(sector: &[u8]) -> Branches {
     let mut met = Branches::new();
@@ -164,7 +154,6 @@ fn branches_of_item(sector: &[u8], item: &Item) -> Branches {
 
 fn branches_of_recovery(case: &Case) -> Branches {
     let outcome = recover(&case.image, case.allowance, &mut vec![None; case.records as usize]);
-    let sectors = case.image.len() / SECTOR_BYTES;
     let ended = outcome.result == 0;
     let conditions = [
         (ended, Branch::RecoveryResult0),
@@ -174,12 +163,15 @@ fn branches_of_recovery(case: &Case) -> Branches {
         (outcome.result == 7, Branch::RecoveryResult7),
         (ended && outcome.steps > 0 && fits(&outcome, case), Branch::RecoveryFitsExactly),
         (ended && case.allowance == 0, Branch::RecoveryAllowance0),
-        (ended && case.records as usize > sectors, Branch::RecoveryRecordsPast),
+        (ended && case.records as usize > sectors(&case.image).count(), Branch::RecoveryRecordsPast),
     ];
     let mut met = held(&conditions);
     if outcome.result == 7 {
         met.extend(branches_of_stage(&outcome));
         met.extend(branches_of_stop(case, &outcome));
+    }
+    if !matches!(outcome.result, 1 | 2) {
+        met.extend(sectors(&case.image).flat_map(branches_of_sector));
     }
     &met | &outcome.branches
 }
@@ -247,6 +239,9 @@ fn branches_of_reclaim(case: &Case) -> Branches {
     if outcome.result == 7 {
         met.extend(branches_of_stop(case, &outcome));
     }
+    if outcome.result != 1 {
+        met.extend(sectors(&case.image).flat_map(branches_of_sector));
+    }
     &met | &outcome.branches
 }
 
@@ -254,12 +249,12 @@ fn branches_of_reader(case: &Case) -> Branches {
     let Ok(read) = read_items(&case.image) else {
         return BTreeSet::from([Branch::ReaderResult1]);
     };
-    let free = crate::sector::free(state(&case.image));
-    held(&[
+    let conditions = [
         (true, Branch::ReaderResult0),
         (read.is_empty(), Branch::ReaderNoItem),
-        (free, Branch::ReaderFreeSector),
-    ])
+        (free(state(&case.image)), Branch::ReaderFreeSector),
+    ];
+    &held(&conditions) | &branches_of_sector(&case.image)
 }
 
 fn branches_of_listing(case: &Case) -> Branches {
@@ -275,7 +270,14 @@ fn branches_of_listing(case: &Case) -> Branches {
         (shows("blank"), Branch::ListingBlank),
         (shows("corrupt"), Branch::ListingCorrupt),
     ];
-    &outcome.branches | &held(&conditions)
+    let mut met = &outcome.branches | &held(&conditions);
+    if outcome.result == 0 {
+        // What a sector was shows in the listing only where recovery left it as it was.
+        let pairs = sectors(&case.image).zip(sectors(&outcome.image));
+        let unchanged = pairs.filter(|(before, after)| before == after);
+        met.extend(unchanged.flat_map(|(sector, _)| branches_of_sector(sector)));
+    }
+    met
 }
 
 /// Prints the table. The answer: whether every row was met, result 8 apart.
