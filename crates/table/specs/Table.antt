@@ -80,9 +80,22 @@ asFull p =
       seen = record { state = Full; sequence = p .seen .sequence; written = p .seen .written; erased = p .seen .erased; empty = p .seen .empty; illegal = p .seen .illegal };
     }
 
--- "a table by value of at most 16 pages": it holds the page list ps and the free list fs
+-- the lists that a table holds
+abbrev pub listed : Table → List Page
+listed t = take (t .count) (t .pages)
+
+abbrev pub freed : Table → List ℕ
+freed t = take (t .«free_count») (t .free)
+
+-- "a table by value of at most 16 pages"
+pub record Sized (t : Table) : Type 0 where
+  pub list : t .count ≤ length (t .pages)
+  pub free : t .«free_count» ≤ length (t .free)
+  pub sixteen : length (t .pages) ≡ 16
+  pub sixteen-free : length (t .free) ≡ 16
+
+-- it holds the page list ps and the free list fs
 pub record Holds (t : Table) (ps : List Page) (fs : List ℕ) : Type 0 where
-  pub list : take (t .count) (t .pages) ≡ ps
-  pub free : take (t .«free_count») (t .free) ≡ fs
-  pub some : t .count ≤ 16
-  pub frees : t .«free_count» ≤ 16
+  pub sized : Sized t
+  pub list : listed t ≡ ps
+  pub free : freed t ≡ fs

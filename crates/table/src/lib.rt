@@ -2,10 +2,11 @@
 use page::PageRecord;
 use page::PageState;
 ghost use mathlib.Core.Path.{_≡_};
-ghost use Prim.Native.Nat.{_*_, _≤_};
+ghost use Prim.Native.Nat.{max, _*_, _≤_};
 ghost use lib.ListN.{length};
 ghost use Rattle.crc.specs.Table.{crcTable};
-ghost use Rattle.table.specs.Table.{pages, frees, active, freeing, asFull, Holds};
+ghost use Rattle.lists.specs.Lists.{greatest, some-of};
+ghost use Rattle.table.specs.Table.{wholeSectors, pages, frees, active, sequence, activePage, listed, Sized, Holds};
 
 // A page of the list: its sector, and the record that the scan made of it.
 pub struct Page {
@@ -79,4 +80,59 @@ pub fn scan(t: &[u32; 324], image: &[u8], sectors: usize) -> Table
         free,
         free_count,
     }
+}
+
+// Whether the image is 2 to 16 whole sectors.
+pub fn is_whole(image: &[u8]) -> bool
+    ensures { λ r. ⌜ r ≡ wholeSectors (now (image .entry)) ⌝ }
+{
+    if image.len() % 4096 != 0 {
+        return false;
+    }
+    let sectors = image.len() / 4096;
+    if sectors < 2 {
+        return false;
+    }
+    sectors <= 16
+}
+
+fn larger(a: u32, b: u32) -> u32
+    ensures { λ r. ⌜ r ≡ max a b ⌝ }
+{
+    if a < b { b } else { a }
+}
+
+// The greatest sequence of the list, 0 where there is no page.
+pub fn greatest_sequence(t: Table) -> u32
+    requires { ⌜ Sized t ⌝ }
+    ensures { λ r. ⌜ r ≡ greatest sequence (listed t) ⌝ }
+{
+    let mut g: u32 = 0;
+    let mut i = t.count;
+    while 0 < i {
+        i -= 1;
+        let p = t.pages[i];
+        let seen = p.seen;
+        g = larger(seen.sequence, g);
+    }
+    g
+}
+
+// Whether a page of the list is Active.
+pub fn any_active(t: Table) -> bool
+    requires { ⌜ Sized t ⌝ }
+    ensures { λ r. ⌜ r ≡ some-of activePage (listed t) ⌝ }
+{
+    let count = t.count;
+    let mut i: usize = 0;
+    while i < count {
+        let p = t.pages[i];
+        let seen = p.seen;
+        let state = seen.state;
+        if is_active(state) {
+            return true;
+        }
+        i += 1;
+    }
+    false
 }

@@ -71,10 +71,9 @@ returns c =
     let i = l .loop .inv in
     let e : l .loop .n ≡ length (a .args .image .now) / 4096 = omega arith in
     record {
+      sized = record { list = omega arith; free = omega arith; sixteen = i .0; sixteen-free = i .1 };
       list = i .5 ∙ ap (pagesTo (a .args .image .now)) e;
       free = i .6 ∙ ap (freesTo (a .args .image .now)) e;
-      some = omega arith;
-      frees = omega arith;
     }
 
 pub scan-spec : {M : Type 1} → statement M
