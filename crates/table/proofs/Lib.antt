@@ -1,0 +1,5 @@
+pub mod Sectors
+pub mod Records
+pub mod Pages
+pub mod Scanning
+pub mod Listing
