@@ -9,18 +9,10 @@ use lib.Dec.{leb}
 use borrow.Author.Tests.{leb-true, lt-leb}
 use Rattle.word.specs.Number.{part}
 use Rattle.entry.specs.Fields.{entryAt, spanOf}
+use Rattle.page.proofs.Tests.{both-first, both-second}
 use Rattle.page.specs.declared.walk.ItemHeader.{ItemHeader}
 use Rattle.page.specs.declared.walk.Reading.the-variants.{Item, Nothing}
 use Rattle.page.specs.Walk.{readable, fits, isItem, Laid, laidAt, onFrom, walk, headerOf, readingOf}
-
--- of two tests that both hold, each holds
-pub both-first : (a b : Bool) → (a && b) ≡ true → a ≡ true
-both-first true b e = refl
-both-first false b e = e
-
-pub both-second : (a b : Bool) → (a && b) ≡ true → b ≡ true
-both-second true b e = e
-both-second false b e = absurd (let z : _≡_ {A = ℕ} 0 1 = cc in omega arith)
 
 module _ (t : List ℕ) where
   -- an item has a span, which ends on the page

@@ -1,1 +1,2 @@
 pub mod Reclaim
+pub mod Choosing

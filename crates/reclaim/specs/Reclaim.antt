@@ -41,15 +41,15 @@ closed Full = true
 closed Freeing = true
 
 -- "a copy is needed": 5 "no sector free", 6 "greatest sequence above 0xFFFFFFFD"
-unfoldable pub planTo : List Page → Page → Option ℕ → Plan
-planTo ps x none = Refuse NoFreeSector
-planTo ps x (some t) = cond (ltb 0xFFFFFFFD (greatest sequence ps)) (Refuse SequencesSpent) (Move (x .sector) t (next ps))
+unfoldable pub planTo : List Page → ℕ → Option ℕ → Plan
+planTo ps s none = Refuse NoFreeSector
+planTo ps s (some t) = cond (ltb 0xFFFFFFFD (greatest sequence ps)) (Refuse SequencesSpent) (Move s t (next ps))
 
 -- "If all 126 are Erased it is erased. Otherwise" a copy is needed; 4 "no page below 126 Written"
 unfoldable pub planWith : List Page → List ℕ → Option Page → Plan
 planWith ps fs none = Refuse AllWritten
 planWith ps fs (some x) =
-    cond (closed (x .seen .state)) (cond (eqb (x .seen .erased) 126) (Clear (x .sector)) (planTo ps x (getLast? fs))) (Refuse NotReclaimable)
+    cond (closed (x .seen .state)) (cond (eqb (x .seen .erased) 126) (Clear (x .sector)) (planTo ps (x .sector) (getLast? fs))) (Refuse NotReclaimable)
 
 -- "reclaim 1, 3, 4, 8, 5, 6; then steps": 3 "an Active page stands"
 unfoldable pub plan : List Page → List ℕ → Plan

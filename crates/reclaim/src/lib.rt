@@ -2,3 +2,4 @@
 mod plan;
 
 pub use plan::Plan;
+pub use plan::plan_of;

@@ -1,9 +1,150 @@
 // What a reclaim is to do, worked out from the page table alone.
 use answer::Answer;
+use page::PageState;
+use table::Page;
+use table::Table;
+ghost use mathlib.Core.Path.{_≡_};
+ghost use Prim.Native.Nat.{_+_, _≤_, _<_};
+ghost use mathlib.Core.List.{getLast?};
+ghost use Rattle.lists.specs.Lists.{greatest};
+ghost use Rattle.table.specs.Table.{sequence, listed, freed, Sized};
+ghost use Rattle.reclaim.specs.Reclaim.{points, closed, chosen, planTo, plan};
+ghost use Rattle.reclaim.specs.Choosing.{choiceOf, chosenOf, targetOf};
 
 // It is refused; the source is erased, since all its entries are Erased; or its items are moved to the target, which gets the sequence.
 pub enum Plan {
     Refuse(Answer),
     Clear(usize),
     Move(usize, usize, u32),
+}
+
+// The page that has won so far.
+pub enum Choice {
+    Chosen(Page),
+    NoPage,
+}
+
+// The free sector to take.
+pub enum Target {
+    Sector(usize),
+    NoSector,
+}
+
+fn long(n: u32) -> u64
+    ensures { λ r. ⌜ (r ≡ n) × (r < 0x1_0000_0000) ⌝ }
+{
+    n as u64
+}
+
+// The points of a page, where `next` is one above the greatest sequence: it may be 2^32, so they are counted in 64 bits.
+fn points_of(next: u64, p: Page) -> u64
+    requires { ⌜ next ≤ 0x1_0000_0000 ⌝ }
+    ensures { λ r. ⌜ r ≡ points next p ⌝ }
+{
+    let seen = p.seen;
+    let erased = long(seen.erased);
+    if erased == 0 {
+        return 0;
+    }
+    let sequence = long(seen.sequence);
+    if sequence < next {
+        10 * erased + (next - sequence)
+    } else {
+        10 * erased
+    }
+}
+
+// The better of a page and the best of those behind it: among equals the later.
+fn better_of(next: u64, p: Page, best: Choice) -> Choice
+    requires { ⌜ next ≤ 0x1_0000_0000 ⌝ }
+    ensures { λ r. ⌜ r ≡ choiceOf next p best ⌝ }
+{
+    let seen = p.seen;
+    if 126 <= seen.written {
+        return best;
+    }
+    let Choice::Chosen(q) = best else {
+        return Choice::Chosen(p);
+    };
+    if points_of(next, p) <= points_of(next, q) {
+        Choice::Chosen(q)
+    } else {
+        Choice::Chosen(p)
+    }
+}
+
+// The page to reclaim. The list is gone through from its end, so that the last of equals stands.
+fn choose(t: Table, top: u32) -> Choice
+    requires { ⌜ Sized t × (top ≡ greatest sequence (listed t)) ⌝ }
+    ensures { λ r. ⌜ r ≡ chosenOf (chosen (listed t)) ⌝ }
+{
+    let next = long(top) + 1;
+    let mut best = Choice::NoPage;
+    let mut i = t.count;
+    while 0 < i {
+        i -= 1;
+        let p = t.pages[i];
+        best = better_of(next, p, best);
+    }
+    best
+}
+
+fn is_closed(state: PageState) -> bool
+    ensures { λ r. ⌜ r ≡ closed state ⌝ }
+{
+    match state {
+        PageState::Blank => false,
+        PageState::Corrupt => false,
+        PageState::Active => false,
+        PageState::Full => true,
+        PageState::Freeing => true,
+    }
+}
+
+// "the last is taken first"
+fn last_free(t: Table) -> Target
+    requires { ⌜ Sized t ⌝ }
+    ensures { λ r. ⌜ r ≡ targetOf (getLast? (freed t)) ⌝ }
+{
+    let n = t.free_count;
+    if n == 0 {
+        return Target::NoSector;
+    }
+    Target::Sector(t.free[n - 1])
+}
+
+// The crate marks the page Freeing before it looks for a free one; here the looking comes first, so that a refusal changes nothing.
+fn plan_copy(t: Table, source: usize, top: u32) -> Plan
+    requires { ⌜ Sized t × (top ≡ greatest sequence (listed t)) ⌝ }
+    ensures { λ r. ⌜ r ≡ planTo (listed t) source (getLast? (freed t)) ⌝ }
+{
+    let Target::Sector(target) = last_free(t) else {
+        return Plan::Refuse(Answer::NoFreeSector);
+    };
+    if 0xFFFF_FFFD < top {
+        return Plan::Refuse(Answer::SequencesSpent);
+    }
+    Plan::Move(source, target, top + 1)
+}
+
+pub fn plan_of(t: Table) -> Plan
+    requires { ⌜ Sized t ⌝ }
+    ensures { λ r. ⌜ r ≡ plan (listed t) (freed t) ⌝ }
+{
+    if table::any_active(t) {
+        return Plan::Refuse(Answer::ActiveStands);
+    }
+    let top = table::greatest_sequence(t);
+    let Choice::Chosen(p) = choose(t, top) else {
+        return Plan::Refuse(Answer::AllWritten);
+    };
+    let seen = p.seen;
+    let state = seen.state;
+    if !is_closed(state) {
+        return Plan::Refuse(Answer::NotReclaimable);
+    }
+    if seen.erased == 126 {
+        return Plan::Clear(p.sector);
+    }
+    plan_copy(t, p.sector, top)
 }

@@ -13,18 +13,11 @@ use Rattle.word.proofs.Bytes.{part-byte, le-part}
 use Rattle.entry.specs.States.{stateAt}
 use Rattle.entry.specs.Kinds.{kindOf, known}
 use Rattle.entry.specs.Fields.{entryAt, crcIn, entryCrc, kindIn, spanOf}
+use Rattle.page.proofs.Tests.{not-true, not-false}
 use Rattle.page.specs.Walk.{readingOf, isItem, rightHeader, headerOf}
 use borrow.Author.Needs.{needs}
 use Rattle.page.proofs.walk.read_entry.Statement.{statement}
 use Rattle.page.proofs.walk.read_entry.Tie as tie
-
-not-true : (b : Bool) → not b ≡ true → b ≡ false
-not-true true e = sym e
-not-true false e = refl
-
-not-false : (b : Bool) → not b ≡ false → b ≡ true
-not-false true e = refl
-not-false false e = sym e
 
 returns : tie.Need-returns
 unfolding readingOf isItem rightHeader

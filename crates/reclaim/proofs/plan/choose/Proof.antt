@@ -1,0 +1,108 @@
+-- `reclaim::choose` meets its contract: what is chosen so far is the best of the candidates from here on. Assumes nothing.
+use mathlib.Core.Path.{_≡_, sym, ap, _∙_}
+use mathlib.Core.List.{List}
+use Prim.Native.Nat.{ℕ, _+_, _-_, _≤_}
+use native.Mathlib.Omega.{arith}
+use borrow.Author.Needs.{needs}
+use lib.ListN.{drop}
+use Rattle.lists.specs.Lists.{keep, best as bestOf}
+use Rattle.table.specs.declared.Page.{Page}
+use Rattle.table.specs.Table.{listed}
+use Rattle.table.proofs.Listing.{element, listed-end}
+use Rattle.reclaim.specs.Reclaim.{candidate, next, chosen}
+use Rattle.reclaim.specs.Choosing.{chosenOf, choiceOf}
+use Rattle.reclaim.proofs.Choosing.{over, choice-more}
+use Rattle.reclaim.proofs.plan.choose.Statement.{statement}
+use Rattle.reclaim.proofs.plan.choose.Tie as tie
+use Rattle.reclaim.proofs.plan.choose.Reads as reads
+use Rattle.reclaim.proofs.plan.choose.Lts as lts
+use Rattle.reclaim.proofs.plan.better_of.Reads as better-of-reads
+use Rattle.reclaim.proofs.plan.long.Reads as long-reads
+
+abbrev Inv-loop : tie.InvT-loop
+Inv-loop top t next best₀ i₀ best i = (i ≤ t .count) × (best ≡ chosenOf (bestOf (over next) (keep candidate (drop i (listed t)))))
+
+abbrev μ-loop : tie.MeasureT-loop
+μ-loop top t next best₀ i₀ best i = i
+
+-- src/plan.rt:81:16
+long-requires : tie.Need-long-requires Inv-loop μ-loop
+long-requires c κs = search needs
+
+-- src/plan.rt:81:16
+add-next : tie.Need-add-next Inv-loop μ-loop
+add-next c = search needs
+
+-- src/plan.rt:84:5
+loop-holds : tie.Need-loop-holds Inv-loop μ-loop
+unfolding keep bestOf
+loop-holds c =
+    let t = c .before .args .t1 in (
+      omega arith,
+      sym (ap (λ (xs : List Page). chosenOf (bestOf (over (c .long .result + 1)) (keep candidate xs))) (listed-end (t .pages) (t .count) (c .before .pre .0 .list) (t .count) (omega arith))),
+    )
+
+-- src/plan.rt:85:9
+sub-i : tie.Need-sub-i Inv-loop μ-loop
+sub-i c = search needs
+
+-- src/plan.rt:86:17
+mul-p : tie.Need-mul-p Inv-loop μ-loop
+mul-p c = search needs
+
+-- src/plan.rt:86:17
+element-copy-out-p : tie.Need-element-copy-out-p Inv-loop μ-loop
+element-copy-out-p c = search needs
+
+-- src/plan.rt:87:9
+better-of-requires : tie.Need-better-of-requires Inv-loop μ-loop
+better-of-requires c κs = search needs
+
+-- src/plan.rt:84:5
+loop-less : tie.Need-loop-less Inv-loop μ-loop
+loop-less c = search needs
+
+-- src/plan.rt:84:5
+loop-again : tie.Need-loop-again Inv-loop μ-loop
+loop-again c =
+    let l = c .before .before .before in
+    let t = l .before .before .args .t1 in
+    let n = l .before .long .result + 1 in
+    let i = l .loop .i in
+    let e : i - 1 + 1 ≡ i = omega arith in (
+      omega arith,
+      c .better-of .ensures
+      ∙ ap (choiceOf n _) (l .loop .inv .1 ∙ ap (λ (k : ℕ). chosenOf (bestOf (over n) (keep candidate (drop k (listed t))))) (sym e))
+      ∙ choice-more n _ (drop (i - 1 + 1) (listed t))
+      ∙ sym (ap (λ (xs : List Page). chosenOf (bestOf (over n) (keep candidate xs))) (element (t .pages) (t .count) (l .before .before .pre .0 .list) (i - 1) _ (omega arith))),
+    )
+
+-- src/plan.rt:77:1
+returns : tie.Need-returns Inv-loop μ-loop
+unfolding chosen
+returns c =
+    let l = c .before in
+    let a = l .before .before in
+    let t = a .args .t1 in
+    let e : l .loop .i ≡ 0 = omega arith in
+    let n : l .before .long .result + 1 ≡ next (listed t) = omega (arith, a .pre .1, l .before .long .ensures .0) in
+    l .loop .inv .1
+    ∙ ap (λ (k : ℕ). chosenOf (bestOf (over (l .before .long .result + 1)) (keep candidate (drop k (listed t))))) e
+    ∙ ap (λ (m : ℕ). chosenOf (bestOf (over m) (keep candidate (listed t)))) n
+
+pub choose-spec : {M : Type 1} → statement M
+choose-spec =
+    tie.close
+    (tie.spec
+    Inv-loop
+    μ-loop
+    long-requires
+    add-next
+    loop-holds
+    sub-i
+    mul-p
+    element-copy-out-p
+    better-of-requires
+    loop-less
+    loop-again
+    returns)
