@@ -73,7 +73,6 @@ fn sound_pairs<'a, 'b>(sound: &'b Versions<'a>) -> Vec<[&'b Version<'a>; 2]> {
 }
 
 /// "Of two sound versions of a key the older goes the same way [..] the older-of-two after all others".
-/// "This stage and the next each judge by the items found as they begin".
 pub fn blobs(run: &mut Run, found: &[Found]) {
     run.stage = Stage::Blobs;
     let (sound, unsound): (Versions, Versions) =

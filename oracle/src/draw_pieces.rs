@@ -40,9 +40,9 @@ struct Names {
 }
 
 fn draw_names(random: &mut Random) -> Names {
-    // Keys that differ after a zero byte, in the last byte, and by a byte above 0x7F.
-    let mut keys = vec![key_of("a"), key_of("b"), key_of("a\0x"), key_of("tariff.register"), [0x80; 16]];
-    keys.push([b'k'; 16]);
+    // Alike up to a zero byte, alike up to the last byte, without a zero byte, above 0x7F.
+    let mut keys = vec![key_of("a"), key_of("b"), key_of("a\0x"), key_of("tariff.register")];
+    keys.extend([*b"sixteen bytes, a", *b"sixteen bytes, b", [0x80; 16]]);
     random.shuffle(&mut keys);
     keys.truncate(1 + random.below(4));
     let namespaces = match random.below(6) {
@@ -86,11 +86,13 @@ fn draw_payload(random: &mut Random, names: &Names, span: u8) -> Vec<u8> {
     match random.below(4) {
         0 => {
             for entry in payload.chunks_mut(ENTRY_BYTES) {
-                let fields = Fields { span: 1, ..draw_plain(random, names) };
-                entry.copy_from_slice(&fields.header());
+                let plain = draw_plain(random, names);
+                let chunk = draw_chunk(random, plain.namespace, plain.key, 0);
+                let fields = if random.once_in(4) { chunk } else { plain };
+                entry.copy_from_slice(&Fields { span: 1, ..fields }.header());
             }
         }
-        1 => payload.fill(0xFF),
+        1 => {}
         _ => random.fill(&mut payload),
     }
     payload

@@ -4,6 +4,7 @@
 mod active_order;
 mod blobs;
 mod branch;
+mod case_branches;
 mod compare;
 mod cover;
 mod crc;

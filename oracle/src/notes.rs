@@ -10,10 +10,10 @@ use crate::duplicates::chunks_of;
 use crate::finish::{holds_each, is_copy, newest_has_it_all};
 use crate::items::{items, Item, Key};
 use crate::reclaim::{most_points, Candidate};
-use crate::recover::{freeing_pages, sequences_run_out};
+use crate::recover::{freeing_pages, judge_items, sequences_run_out};
 use crate::scan::{greatest, Found, Lists, Page};
 use crate::sector::{state, total, EntryState, State};
-use crate::steps::Run;
+use crate::steps::{Run, Stage};
 
 /// Recovery's result 6 at its edges, and result 2 before it.
 pub fn sequences(run: &mut Run, lists: &Lists, too_few_records: bool) {
@@ -42,12 +42,20 @@ pub fn kept_to_mark(run: &mut Run, sector: usize) {
     run.met_if(illegal > 0, Branch::OrderMarksKeptIllegal);
 }
 
-/// Stage 1 done again, where the list that stage 2 left was another.
+/// Stage 1 done again: where stage 2 made no step, whether the later stages go by the new list.
 pub fn order_again(run: &mut Run, finished: &[Page], again: &[Page]) {
-    let sectors = |pages: &[Page]| pages.iter().map(|page| page.sector).collect::<Vec<_>>();
     let freeing = again.iter().any(|page| state(run.sector(page.sector)) == State::Freeing);
     run.met_if(freeing, Branch::FinishLeavesFreeing);
-    run.met_if(run.list.is_empty() && sectors(finished) != sectors(again), Branch::OrderAgainWithoutStep);
+    let finish_made_none = !run.list.iter().any(|tagged| matches!(tagged.stage, Stage::Finish { .. }));
+    if finish_made_none {
+        let list_by = |pages: &[Page]| {
+            let mut run = run.clone();
+            judge_items(&mut run, pages);
+            run.list
+        };
+        let unlike = list_by(finished) != list_by(again);
+        run.met_if(unlike, Branch::OrderAgainWithoutStep);
+    }
 }
 
 pub fn source_taken(run: &mut Run, pages: &[Page], freeing: usize) {
@@ -289,6 +297,7 @@ pub fn duplicate(run: &mut Run, found: &[Found], old: &Found, kept: &Found) {
         (tie, Branch::DuplicateByList),
         (tie && old.sector > kept.sector, Branch::DuplicateByListNotSectors),
         (old.item.kind() != kept.item.kind(), Branch::DuplicateTypesDiffer),
+        (old.item.chunk_index() != kept.item.chunk_index(), Branch::DuplicateChunkIndicesDiffer),
     ];
     run.met_each(&conditions);
     if old.item.is_blob_index() {

@@ -6,7 +6,7 @@ use crate::branch::Branch;
 use crate::duplicates::duplicates;
 use crate::finish::finish;
 use crate::notes;
-use crate::scan::{found, greatest, scan, whole_sectors, Lists};
+use crate::scan::{found, greatest, scan, whole_sectors, Lists, Page};
 use crate::sector::{record, Record, State, SECTOR_BYTES};
 use crate::steps::{call, Outcome, Run, Stage};
 
@@ -45,12 +45,17 @@ fn stages(run: &mut Run) {
         active_order(run, &mut lists.pages);
         notes::order_again(run, &finished, &lists.pages);
     }
-    let begun = found(&run.image, &lists.pages);
-    blobs(run, &begun);
-    let left = found(&run.image, &lists.pages);
-    notes::uncovered(run, &begun, &left);
-    duplicates(run, &left, &lists.pages);
+    judge_items(run, &lists.pages);
     run.met_if(run.list.is_empty(), Branch::RecoveryWithoutStep);
+}
+
+/// "This stage and the next each judge by the items found as they begin".
+pub fn judge_items(run: &mut Run, pages: &[Page]) {
+    let begun = found(&run.image, pages);
+    blobs(run, &begun);
+    let left = found(&run.image, pages);
+    notes::uncovered(run, &begun, &left);
+    duplicates(run, &left, pages);
 }
 
 /// The records stay as they are unless the list of steps ended: "recovery fills the records", "one a

@@ -4,7 +4,7 @@ use std::cmp::Reverse;
 use std::collections::BTreeSet;
 
 use crate::branch::Branch;
-use crate::cover::branches_of;
+use crate::case_branches::branches_of;
 use crate::generate::case_of;
 use crate::named::named_cases;
 use crate::protocol::{Case, Operation};

@@ -78,6 +78,7 @@ fn state_words(entry: usize, span: usize, state: EntryState) -> Vec<(usize, u32)
 
 /// The list of steps under way, on a scratch copy of the image: each rule reads the image that the steps
 /// before it left.
+#[derive(Clone)]
 pub struct Run {
     pub image: Vec<u8>,
     pub list: Vec<TaggedStep>,
