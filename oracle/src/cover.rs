@@ -25,7 +25,7 @@ pub fn cover(count: u64, seed: u64, operations: &[Operation]) -> bool {
             _ => "",
         };
         complete &= met > 0 || unreachable;
-        println!("{:>4} {:<52} {met:>8}{remark}", number + 1, branch.text());
+        println!("{:>4} {:<66} {met:>8}{remark}", number + 1, branch.text());
     }
     complete
 }
