@@ -1,4 +1,5 @@
 -- Document 01, Result numbers: the number and the values of each answer. Assumes nothing.
+use mathlib.Core.Bool.{Bool, true, false}
 use Prim.Native.Nat.{ℕ}
 use Rattle.answer.specs.declared.Stage.{Stage}
 use Rattle.answer.specs.declared.Answer.{Answer}
@@ -26,3 +27,15 @@ stepsOf NoFreeSector = 0
 stepsOf SequencesSpent = 0
 stepsOf (Stopped s n) = n
 stepsOf NotReclaimable = 0
+
+-- "0 and 7 are no refusals."
+abbrev pub refusal : Answer → Bool
+refusal (Done n) = false
+refusal NotSectors = true
+refusal FewRecords = true
+refusal ActiveStands = true
+refusal AllWritten = true
+refusal NoFreeSector = true
+refusal SequencesSpent = true
+refusal (Stopped s n) = false
+refusal NotReclaimable = true

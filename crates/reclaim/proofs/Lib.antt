@@ -1,1 +1,4 @@
 pub mod Choosing
+pub mod Planned
+pub mod Made
+pub mod Promised

@@ -1,2 +1,3 @@
 pub mod Reclaim
 pub mod Choosing
+pub mod Promise

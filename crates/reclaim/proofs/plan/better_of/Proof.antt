@@ -1,5 +1,4 @@
 -- `reclaim::better_of` meets its contract: each test that led to a return decides the definition's. Assumes nothing.
-use mathlib.Core.Path.{_≡_}
 use Prim.Native.Nat.{_≤_, _<_}
 use native.Mathlib.Omega.{arith}
 use borrow.Author.Tests.{lt-ltb, le-ltb, le-leb, lt-leb}
@@ -8,37 +7,15 @@ use Rattle.reclaim.specs.Choosing.{choiceOf}
 use borrow.Author.Needs.{needs}
 use Rattle.reclaim.proofs.plan.better_of.Statement.{statement}
 use Rattle.reclaim.proofs.plan.better_of.Tie as tie
-use Rattle.reclaim.proofs.plan.better_of.Reads as reads
-use Rattle.reclaim.proofs.plan.better_of.Lts as lts
-use Rattle.reclaim.proofs.plan.points_of.Reads as points-of-reads
 
--- src/plan.rt:64:9
 returns : tie.Need-returns
 unfolding choiceOf
 returns c = rw (le-ltb _ _ (c .if1 .taken))
 
--- src/plan.rt:66:24
-enum-known-best : tie.Need-enum-known-best
-enum-known-best c = search needs
-
--- src/plan.rt:67:9
-enum-told : tie.Need-enum-told
-enum-told c = search needs
-
--- src/plan.rt:67:9
 returns-2 : tie.Need-returns-2
 unfolding choiceOf
 returns-2 c = rw (lt-ltb _ _ (c .before .before .if1 .left), c .enum-told .given .1)
 
--- src/plan.rt:69:8
-points-of-requires : tie.Need-points-of-requires
-points-of-requires c κs = search needs
-
--- src/plan.rt:69:30
-points-of-requires-2 : tie.Need-points-of-requires-2
-points-of-requires-2 c κs = search needs
-
--- src/plan.rt:58:1
 returns-3 : tie.Need-returns-3
 unfolding choiceOf
 returns-3 c =
@@ -47,7 +24,6 @@ returns-3 c =
     let fits : points (a .next) (a .p) ≤ points (a .next) q = omega (arith, c .before .before .points-of .ensures, c .before .points-of2 .ensures) in
     rw (lt-ltb _ _ (c .before .before .before .before .before .before .if1 .left), c .before .before .before .before .best .given .1, le-leb _ _ fits)
 
--- src/plan.rt:58:1
 returns-4 : tie.Need-returns-4
 unfolding choiceOf
 returns-4 c =
@@ -61,10 +37,10 @@ better-of-spec =
     tie.close
     (tie.spec
     returns
-    enum-known-best
-    enum-told
+    (λ c. search needs)
+    (λ c. search needs)
     returns-2
-    points-of-requires
-    points-of-requires-2
+    (λ c κs. search needs)
+    (λ c κs. search needs)
     returns-3
     returns-4)

@@ -14,10 +14,6 @@ use Rattle.reclaim.specs.Choosing.{chosenOf, choiceOf}
 use Rattle.reclaim.proofs.Choosing.{over, choice-more}
 use Rattle.reclaim.proofs.plan.choose.Statement.{statement}
 use Rattle.reclaim.proofs.plan.choose.Tie as tie
-use Rattle.reclaim.proofs.plan.choose.Reads as reads
-use Rattle.reclaim.proofs.plan.choose.Lts as lts
-use Rattle.reclaim.proofs.plan.better_of.Reads as better-of-reads
-use Rattle.reclaim.proofs.plan.long.Reads as long-reads
 
 abbrev Inv-loop : tie.InvT-loop
 Inv-loop top t next best₀ i₀ best i = (i ≤ t .count) × (best ≡ chosenOf (bestOf (over next) (keep candidate (drop i (listed t)))))
@@ -25,15 +21,6 @@ Inv-loop top t next best₀ i₀ best i = (i ≤ t .count) × (best ≡ chosenOf
 abbrev μ-loop : tie.MeasureT-loop
 μ-loop top t next best₀ i₀ best i = i
 
--- src/plan.rt:81:16
-long-requires : tie.Need-long-requires Inv-loop μ-loop
-long-requires c κs = search needs
-
--- src/plan.rt:81:16
-add-next : tie.Need-add-next Inv-loop μ-loop
-add-next c = search needs
-
--- src/plan.rt:84:5
 loop-holds : tie.Need-loop-holds Inv-loop μ-loop
 unfolding keep bestOf
 loop-holds c =
@@ -42,27 +29,6 @@ loop-holds c =
       sym (ap (λ (xs : List Page). chosenOf (bestOf (over (c .long .result + 1)) (keep candidate xs))) (listed-end (t .pages) (t .count) (c .before .pre .0 .list) (t .count) (omega arith))),
     )
 
--- src/plan.rt:85:9
-sub-i : tie.Need-sub-i Inv-loop μ-loop
-sub-i c = search needs
-
--- src/plan.rt:86:17
-mul-p : tie.Need-mul-p Inv-loop μ-loop
-mul-p c = search needs
-
--- src/plan.rt:86:17
-element-copy-out-p : tie.Need-element-copy-out-p Inv-loop μ-loop
-element-copy-out-p c = search needs
-
--- src/plan.rt:87:9
-better-of-requires : tie.Need-better-of-requires Inv-loop μ-loop
-better-of-requires c κs = search needs
-
--- src/plan.rt:84:5
-loop-less : tie.Need-loop-less Inv-loop μ-loop
-loop-less c = search needs
-
--- src/plan.rt:84:5
 loop-again : tie.Need-loop-again Inv-loop μ-loop
 loop-again c =
     let l = c .before .before .before in
@@ -72,12 +38,11 @@ loop-again c =
     let e : i - 1 + 1 ≡ i = omega arith in (
       omega arith,
       c .better-of .ensures
-      ∙ ap (choiceOf n _) (l .loop .inv .1 ∙ ap (λ (k : ℕ). chosenOf (bestOf (over n) (keep candidate (drop k (listed t))))) (sym e))
-      ∙ choice-more n _ (drop (i - 1 + 1) (listed t))
-      ∙ sym (ap (λ (xs : List Page). chosenOf (bestOf (over n) (keep candidate xs))) (element (t .pages) (t .count) (l .before .before .pre .0 .list) (i - 1) _ (omega arith))),
+          ∙ ap (choiceOf n _) (l .loop .inv .1 ∙ ap (λ (k : ℕ). chosenOf (bestOf (over n) (keep candidate (drop k (listed t))))) (sym e))
+          ∙ choice-more n _ (drop (i - 1 + 1) (listed t))
+          ∙ sym (ap (λ (xs : List Page). chosenOf (bestOf (over n) (keep candidate xs))) (element (t .pages) (t .count) (l .before .before .pre .0 .list) (i - 1) _ (omega arith))),
     )
 
--- src/plan.rt:77:1
 returns : tie.Need-returns Inv-loop μ-loop
 unfolding chosen
 returns c =
@@ -96,13 +61,13 @@ choose-spec =
     (tie.spec
     Inv-loop
     μ-loop
-    long-requires
-    add-next
+    (λ c κs. search needs)
+    (λ c. search needs)
     loop-holds
-    sub-i
-    mul-p
-    element-copy-out-p
-    better-of-requires
-    loop-less
+    (λ c. search needs)
+    (λ c. search needs)
+    (λ c. search needs)
+    (λ c κs. search needs)
+    (λ c. search needs)
     loop-again
     returns)

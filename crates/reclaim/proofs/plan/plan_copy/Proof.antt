@@ -13,9 +13,6 @@ use Rattle.reclaim.specs.Choosing.{targetOf}
 use borrow.Author.Needs.{needs}
 use Rattle.reclaim.proofs.plan.plan_copy.Statement.{statement}
 use Rattle.reclaim.proofs.plan.plan_copy.Tie as tie
-use Rattle.reclaim.proofs.plan.plan_copy.Reads as reads
-use Rattle.reclaim.proofs.plan.plan_copy.Lts as lts
-use Rattle.reclaim.proofs.plan.last_free.Reads as last-free-reads
 
 none-of : (o : Option ℕ) → targetOf o ≡ NoSector → o ≡ none
 none-of none e = refl
@@ -25,43 +22,24 @@ some-of-it : (o : Option ℕ) (t : ℕ) → targetOf o ≡ Sector t → o ≡ so
 some-of-it none t e = absurd (let z : _≡_ {A = ℕ} 0 1 = cc in omega arith)
 some-of-it (some u) t e = cc
 
--- src/plan.rt:121:34
-last-free-requires : tie.Need-last-free-requires
-last-free-requires c κs = search needs
-
--- src/plan.rt:121:24
-enum-known-target : tie.Need-enum-known-target
-enum-known-target c = search needs
-
--- src/plan.rt:122:29
-enum-told : tie.Need-enum-told
-enum-told c = search needs
-
--- src/plan.rt:122:9
 returns : tie.Need-returns
 unfolding planTo
-returns c = 
+returns c =
     let a = c .before .before .before .args in
     let e : getLast? (freed (a .t)) ≡ none = none-of (getLast? (freed (a .t))) (sym (c .before .before .last-free .ensures) ∙ c .enum-told .given .1) in
     rw e
 
--- src/plan.rt:125:9
 returns-2 : tie.Need-returns-2
 unfolding planTo
-returns-2 c = 
+returns-2 c =
     let a = c .before .before .before .before .before .args in
     let e : getLast? (freed (a .t)) ≡ some (c .before .before .target .given .0 .0) = some-of-it (getLast? (freed (a .t))) _ (sym (c .before .before .before .before .last-free .ensures) ∙ c .before .before .target .given .1) in
     let h : 0xFFFF_FFFD < greatest sequence (listed (a .t)) = omega (arith, c .before .before .before .before .before .pre .1) in
     rw (e, lt-ltb _ _ h)
 
--- src/plan.rt:127:32
-add-t9 : tie.Need-add-t9
-add-t9 c = search needs
-
--- src/plan.rt:117:1
 returns-3 : tie.Need-returns-3
 unfolding planTo
-returns-3 c = 
+returns-3 c =
     let a = c .before .before .before .before .before .args in
     let e : getLast? (freed (a .t)) ≡ some (c .before .before .target .given .0 .0) = some-of-it (getLast? (freed (a .t))) _ (sym (c .before .before .before .before .last-free .ensures) ∙ c .before .before .target .given .1) in
     let h : greatest sequence (listed (a .t)) ≤ 0xFFFF_FFFD = omega (arith, c .before .before .before .before .before .pre .1) in
@@ -71,4 +49,4 @@ returns-3 c =
 pub plan-copy-spec : {M : Type 1} → statement M
 plan-copy-spec =
     tie.close
-    (tie.spec last-free-requires enum-known-target enum-told returns returns-2 add-t9 returns-3)
+    (tie.spec (λ c κs. search needs) (λ c. search needs) (λ c. search needs) returns returns-2 (λ c. search needs) returns-3)

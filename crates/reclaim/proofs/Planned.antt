@@ -1,0 +1,71 @@
+-- What a plan names lies in the image: the source is a page, the target a free sector. Assumes nothing.
+use mathlib.Core.Path.{_≡_, refl, sym, ap, _∙_}
+use mathlib.Core.Bool.{Bool, true, false, cond}
+use mathlib.Core.Option.{Option, none, some}
+use mathlib.Core.List.{List, getLast?}
+use Prim.Native.Nat.{ℕ, _<_}
+use native.Mathlib.Omega.{arith}
+use lib.Dec.{eqb, leb, ltb}
+use Rattle.page.specs.State.{stateOf, isFree}
+use Rattle.flash.specs.Step.{sector}
+use Rattle.answer.specs.declared.Answer.the-variants.{ActiveStands, SequencesSpent, NotReclaimable}
+use Rattle.lists.specs.Lists.{keep, some-of, best, greatest}
+use Rattle.lists.proofs.Member.{_∈_, true≢false}
+use Rattle.lists.proofs.Search.{keep-in, best-in, last-in}
+use Rattle.table.specs.declared.Page.{Page}
+use Rattle.table.specs.Table.{sectorsOf, pages, frees, sequence, activePage}
+use Rattle.table.proofs.Pages.{pages-in, frees-in}
+use Rattle.reclaim.specs.declared.plan.Plan.{Plan}
+use Rattle.reclaim.specs.declared.plan.Plan.the-variants.{Refuse, Clear, Move}
+use Rattle.reclaim.specs.Reclaim.{points, candidate, next, closed, chosen, planTo, planWith, plan}
+
+-- the sectors that a plan names are in the image, and they are two
+abbrev pub Named : List ℕ → Plan → Type 0
+Named l (Refuse a) = Unit {0}
+Named l (Clear s) = s < sectorsOf l
+Named l (Move s t q) = (s < sectorsOf l) × (t < sectorsOf l) × (s ≡ t → ⊥)
+
+module _ (l : List ℕ) where
+  -- a page is not free, and a free sector is
+  apart : (p : Page) (t : ℕ) → p ∈ pages l → t ∈ frees l → (p .sector ≡ t → ⊥)
+  apart p t h f e =
+      let a = pages-in l p h .2 in
+      let b = frees-in l t f .1 in
+      let c : isFree (stateOf (sector (p .sector) l)) ≡ isFree (stateOf (sector t l)) = ap (λ (u : ℕ). isFree (stateOf (sector u l))) e in
+      true≢false b (sym c ∙ a)
+
+  named-to : (p : Page) → p ∈ pages l → (o : Option ℕ) → getLast? (frees l) ≡ o → Named l (planTo (pages l) (p .sector) o)
+  unfolding planTo
+  named-to p h none e = tt
+  named-to p h (some t) e = go (ltb 0xFFFFFFFD (greatest sequence (pages l)))
+    where
+      f : t ∈ frees l
+      f = last-in (frees l) t e
+
+      go : (b : Bool) → Named l (cond b (Refuse SequencesSpent) (Move (p .sector) t (next (pages l))))
+      go true = tt
+      go false = (pages-in l p h .1, frees-in l t f .0, apart p t h f)
+
+  named-with : (o : Option Page) → chosen (pages l) ≡ o → Named l (planWith (pages l) (frees l) o)
+  unfolding planWith chosen
+  named-with none e = tt
+  named-with (some p) e = go (closed (p .seen .state))
+    where
+      h : p ∈ pages l
+      h = keep-in candidate (pages l) p (best-in (λ (y x : Page). leb (points (next (pages l)) x) (points (next (pages l)) y)) (keep candidate (pages l)) p e) .0
+
+      full : (b : Bool) → Named l (cond b (Clear (p .sector)) (planTo (pages l) (p .sector) (getLast? (frees l))))
+      full true = pages-in l p h .1
+      full false = named-to p h (getLast? (frees l)) refl
+
+      go : (b : Bool) → Named l (cond b (cond (eqb (p .seen .erased) 126) (Clear (p .sector)) (planTo (pages l) (p .sector) (getLast? (frees l)))) (Refuse NotReclaimable))
+      go true = full (eqb (p .seen .erased) 126)
+      go false = tt
+
+  pub named : Named l (plan (pages l) (frees l))
+  unfolding plan
+  named = go (some-of activePage (pages l))
+    where
+      go : (b : Bool) → Named l (cond b (Refuse ActiveStands) (planWith (pages l) (frees l) (chosen (pages l))))
+      go true = tt
+      go false = named-with (chosen (pages l)) refl

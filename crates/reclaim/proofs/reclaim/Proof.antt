@@ -1,0 +1,91 @@
+-- `reclaim::reclaim` meets its contract: the plan decides, and its steps are made under the allowance. Assumes nothing.
+use mathlib.Core.Path.{_≡_, refl, sym, ap₂, _∙_, subst}
+use mathlib.Core.Bool.{true, false}
+use native.Mathlib.Omega.{arith}
+use borrow.Author.Needs.{needs}
+use Rattle.page.proofs.Tests.{not-true, not-false}
+use Rattle.table.specs.Table.{wholeSectors, pages, frees}
+use Rattle.reclaim.specs.Reclaim.{plan, planSteps}
+use Rattle.reclaim.specs.Promise.{planAnswer}
+use Rattle.reclaim.proofs.Planned.{Named, named}
+use Rattle.reclaim.proofs.Made.{whole-is}
+use Rattle.reclaim.proofs.Promised.{refused-whole, promised-refusal, promised}
+use borrow.Author.Needs.{needs}
+use Rattle.reclaim.proofs.reclaim.Statement.{statement}
+use Rattle.reclaim.proofs.reclaim.Tie as tie
+
+-- the image is whole once the first test is passed
+whole : (c : tie.Else1) → wholeSectors (c .before .before .before .before .args .image .now) ≡ true
+whole c = sym (c .before .is-whole .ensures) ∙ not-false (c .before .is-whole .result) (c .if1 .left)
+
+-- the plan that is made is the definition's
+planned : (c : tie.After-plan-of)
+    → let l = c .before .before .before .before .before .before .before .before .before .args .image .now in
+    plan (pages l) (frees l) ≡ c .plan-of .result
+planned c =
+    let h = c .before .scan .ensures in
+    sym (c .plan-of .ensures ∙ ap₂ plan (h .list) (h .free))
+
+returns : tie.Need-returns
+returns c =
+    let a = c .before .before .before .before .args in
+    let e : wholeSectors (a .image .now) ≡ false = sym (c .before .is-whole .ensures) ∙ not-true (c .before .is-whole .result) (c .if1 .taken) in
+    refused-whole (a .image .now) (a .allowance) e
+
+scan-requires : tie.Need-scan-requires
+scan-requires c κs =
+    let w = whole-is (c .before .before .before .before .before .before .before .args .image .now) (whole (c .before .before .before)) in
+    (search needs, w .0, w .1)
+
+erase-sector-requires : tie.Need-erase-sector-requires
+erase-sector-requires c κs =
+    let n = subst (Named (c .before .before .before .before .before .before .before .before .before .before .before .before .before .args .image .now)) (planned (c .before .before .before .before) ∙ c .before .before .plan2 .given .1) (named (c .before .before .before .before .before .before .before .before .before .before .before .before .before .args .image .now)) in
+    let w = whole-is (c .before .before .before .before .before .before .before .before .before .before .before .before .before .args .image .now) (whole (c .before .before .before .before .before .before .before .before .before)) in
+    omega arith
+
+move-marked-requires : tie.Need-move-marked-requires
+move-marked-requires c κs =
+    let n = subst (Named (c .before .before .before .before .before .before .before .before .before .before .before .before .before .before .args .image .now)) (planned (c .before .before .before .before .before) ∙ c .before .before .before .plan3 .given .1) (named (c .before .before .before .before .before .before .before .before .before .before .before .before .before .before .args .image .now)) in
+    let w = whole-is (c .before .before .before .before .before .before .before .before .before .before .before .before .before .before .args .image .now) (whole (c .before .before .before .before .before .before .before .before .before .before)) in
+    (search needs, omega arith, omega arith, n .2)
+
+returns-2 : tie.Need-returns-2
+returns-2 c =
+    let a = c .before .before .before .before .before .before .before .before .before .before .before .before .args in
+    promised-refusal (a .image .now) (a .allowance) _ (whole (c .before .before .before .before .before .before .before .before)) (planned (c .before .before .before) ∙ c .before .plan .given .1)
+
+returns-3 : tie.Need-returns-3
+unfolding planAnswer planSteps
+returns-3 c =
+    let a = c .before .before .before .before .before .before .before .before .before .before .before .before .before .before .before .before .before .args in
+    promised (a .image .now) (a .allowance) _ _ _ _ (whole (c .before .before .before .before .before .before .before .before .before .before .before .before .before)) (planned (c .before .before .before .before .before .before .before .before) ∙ c .before .before .before .before .before .before .plan2 .given .1) refl (c .before .before .before .erase-sector .ensures) (c .told .ensures)
+
+returns-4 : tie.Need-returns-4
+unfolding planAnswer
+returns-4 c =
+    let a = c .before .before .before .before .before .before .before .before .before .before .before .before .before .before .before .before .before .before .args in
+    promised (a .image .now) (a .allowance) _ _ _ _ (whole (c .before .before .before .before .before .before .before .before .before .before .before .before .before .before)) (planned (c .before .before .before .before .before .before .before .before .before) ∙ c .before .before .before .before .before .before .before .plan3 .given .1) refl (c .before .before .before .move-marked .ensures) (c .told2 .ensures)
+
+pub reclaim-spec : {M : Type 1} → statement M
+reclaim-spec =
+    tie.close
+    (tie.spec
+    (λ c κs. search needs)
+    (λ c. search needs)
+    returns
+    (λ c κs. search needs)
+    scan-requires
+    (λ c κs. search needs)
+    (λ c. search needs)
+    (λ c. search needs)
+    erase-sector-requires
+    (λ c κs. search needs)
+    (λ c. search needs)
+    move-marked-requires
+    (λ c κs. search needs)
+    (λ c. search needs)
+    returns-2
+    (λ c. search needs)
+    returns-3
+    (λ c. search needs)
+    returns-4)
