@@ -3,6 +3,11 @@
 # source go, and so do the lines that only make goals readable while one works.
 import sys, re, glob
 
+def used(name, text):
+    bare = name.strip('_').replace('_', ' ').strip() or name
+    return name in text if name.startswith('_') and name in text else bool(re.search(r'(?<![\w·])%s(?![\w·-])' % re.escape(bare), text))
+
+
 def tidy(path):
     text = open(path).read()
     if 'tie.close' not in text:
@@ -15,10 +20,9 @@ def tidy(path):
         tail = re.sub(r'(?<=[\s])%s(?=[\s)])' % re.escape(name), '(λ %s. search needs)' % args, tail, count=1)
         text = head + tail
     text = re.sub(r'\n{3,}', '\n\n', text)
-    body = text[text.rindex('\nuse '):] if '\nuse ' in text else text
     for module, names in re.findall(r'^use (\S+)\.\{([^}]*)\}\n', text, flags=re.M):
-        kept = [n for n in (x.strip() for x in names.split(','))
-                if len(re.findall(r'(?<![\w·])%s(?![\w·-])' % re.escape(n.split(' as ')[-1].strip('_').replace('_', ' ').strip() or n), re.sub(r'^use .*\n', '', text, flags=re.M))) > 0]
+        rest = re.sub(r'^use .*\n', '', text, flags=re.M)
+        kept = [n for n in (x.strip() for x in names.split(',')) if used(n.split(' as ')[-1], rest)]
         old = 'use %s.{%s}\n' % (module, names)
         text = text.replace(old, 'use %s.{%s}\n' % (module, ', '.join(kept)) if kept else '')
     open(path, 'w').write(text)

@@ -1,24 +1,10 @@
 // The answer to op 2: what the item reader hands out.
+use crate::bytes::put_byte;
+use crate::bytes::put_four;
 use reader::Found;
 ghost use mathlib.Core.Path.{_≡_};
 ghost use Prim.Native.Nat.{_+_, _*_, _<_, _≤_};
 ghost use lib.ListN.{length};
-
-fn put_byte(out: &mut [u8], at: usize, b: u8)
-    requires { ⌜ at < length (now out) ⌝ }
-{
-    out[at] = b;
-}
-
-// The four bytes of a number below 65,536, lowest first.
-fn put_number(out: &mut [u8], at: usize, n: usize)
-    requires { ⌜ at + 4 ≤ length (now out) ⌝ }
-{
-    put_byte(out, at, (n % 256) as u8);
-    put_byte(out, at + 1, (n / 256 % 256) as u8);
-    put_byte(out, at + 2, 0);
-    put_byte(out, at + 3, 0);
-}
 
 fn put_header(sector: &[u8], entry: usize, out: &mut [u8], at: usize)
     requires { ⌜ (length (now sector) ≡ 4096) × (entry < 126) × (at + 32 ≤ length (now out)) ⌝ }
@@ -35,7 +21,7 @@ fn put_header(sector: &[u8], entry: usize, out: &mut [u8], at: usize)
 fn put_item(sector: &[u8], entry: usize, out: &mut [u8], at: usize)
     requires { ⌜ (length (now sector) ≡ 4096) × (at + 36 ≤ length (now out)) ⌝ }
 {
-    put_number(out, at, entry);
+    put_four(out, at, (entry % 65536) as u32);
     if entry < 126 {
         put_header(sector, entry, out, at + 4);
     }
@@ -70,10 +56,10 @@ pub fn answer(sector: &[u8], out: &mut [u8]) -> usize
     let found = step.found;
     put_byte(out, 0, reader::result(found));
     if sector.len() != 4096 {
-        put_number(out, 1, 0);
+        put_four(out, 1, 0);
         return 5;
     }
     let count = put_items(sector, out);
-    put_number(out, 1, count);
+    put_four(out, 1, (count % 65536) as u32);
     5 + count * 36
 }

@@ -1,9 +1,12 @@
 // Answers a batch of cases on standard input by the proved calls, one answer a case on standard output. All integers are little-endian.
 //
 //     case      u8 op, u64 allowance, u32 records, u32 length, then the image's bytes
+//     op 1      reclaim: u8 result, u64 steps, u8 stage, u32 source, u32 length, the image, u32 0
 //     op 2      the item reader of one sector: u8 result, u32 count, then each item's entry in 4 bytes and its 32 header bytes
 //
 // Input that ends inside a case, a length above 131,072 and an op that is none end the run after the last whole case.
+mod bytes;
+mod calls;
 mod items;
 
 ghost use Prim.Native.Nat.{_≤_};
@@ -25,17 +28,19 @@ fn one_case(image: &mut [u8]) -> bool {
     if read < length {
         return false;
     }
-    answer(head[0], image, length)
+    answer(head[0], word::le64(&head, 1), image, length)
 }
 
-fn answer(op: u8, image: &[u8], length: usize) -> bool
+fn answer(op: u8, allowance: u64, image: &mut [u8], length: usize) -> bool
     requires { do ⌜ length ≤ (← ⟦image.len()⟧) ⌝ }
 {
-    if op == 2 {
-        answer_items(&image[..length])
-    } else {
-        false
+    if op == 1 {
+        return calls::answer_reclaim(&mut image[..length], allowance);
     }
+    if op == 2 {
+        return answer_items(&image[..length]);
+    }
+    false
 }
 
 fn answer_items(sector: &[u8]) -> bool {
