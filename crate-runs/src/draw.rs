@@ -1,0 +1,238 @@
+//! Draws cases of the class: stores with whole items, what a store leaves behind, and what a cut leaves. The rest is
+//! the class test's: a drawn case outside the class is drawn again.
+
+use model::items::Key;
+use model::protocol::{Case, Operation};
+use model::random::Random;
+use model::reclaim::reclaim;
+use model::recover::recover;
+use model::sector::{EntryState, ACTIVE_WORD, ENTRIES, FREEING_WORD, FULL_WORD, SECTOR_BYTES};
+use model::steps::{Outcome, Step};
+use model::writing::{index_data, key_of, Fields};
+
+use crate::class::in_class;
+use crate::page::{fields, value, with_payload, Page, CHUNK, INDEX};
+
+const NUMBERS: [u8; 8] = [0x01, 0x02, 0x04, 0x08, 0x11, 0x12, 0x14, 0x18];
+
+/// An item with its payload.
+type Piece = (Fields, Vec<u8>);
+
+fn draw_key(random: &mut Random) -> Key {
+    key_of(["a", "b", "c", "quarter", "hour", "tariff", "k0", "k1"][random.below(8)])
+}
+
+fn draw_payload(random: &mut Random, most: usize) -> Vec<u8> {
+    let mut payload = vec![0; random.below(most + 1)];
+    random.fill(&mut payload);
+    payload
+}
+
+/// A key with any number behind it, so that few items are duplicates.
+fn draw_name(random: &mut Random) -> String {
+    format!("q{}", random.below(4096))
+}
+
+fn draw_plain(random: &mut Random) -> Piece {
+    let kind = random.choose(&NUMBERS);
+    let namespace = 1 + random.below(3) as u8;
+    match random.below(10) {
+        0 => (
+            Fields { namespace: 0, ..fields(0x01, draw_key(random), value(random.next() as u32)) },
+            Vec::new(),
+        ),
+        1 | 2 => {
+            let payload = draw_payload(random, 200);
+            let kind = random.choose(&[0x21, 0x21, 0x41]);
+            (Fields { namespace, ..with_payload(kind, &draw_name(random), &payload) }, payload)
+        }
+        3 => (
+            Fields { namespace, ..fields(kind, draw_key(random), value(random.next() as u32)) },
+            Vec::new(),
+        ),
+        _ => {
+            let key = key_of(&draw_name(random));
+            (Fields { namespace, ..fields(kind, key, value(random.next() as u32)) }, Vec::new())
+        }
+    }
+}
+
+/// A blob of one start: chunks and an index, sound or with one thing wrong.
+fn draw_blob(random: &mut Random) -> Vec<Piece> {
+    let (namespace, key) = (1 + random.below(2) as u8, draw_key(random));
+    let start = random.choose(&[0, 0x80]);
+    let chunks = 1 + random.below(3);
+    let mut pieces = Vec::new();
+    let mut size = 0;
+    for chunk in 0..chunks {
+        let payload = draw_payload(random, 100);
+        size += payload.len() as u32;
+        let header = with_payload(CHUNK, "", &payload);
+        pieces.push((Fields { namespace, key, chunk_index: start + chunk as u8, ..header }, payload));
+    }
+    let mut count = chunks as u8;
+    match random.below(8) {
+        0 => count += 1,
+        1 => size += 1,
+        _ => {}
+    }
+    let index = Fields { namespace, ..fields(INDEX, key, index_data(size, count, start)) };
+    pieces.push((index, Vec::new()));
+    match random.below(8) {
+        0 => pieces.truncate(chunks),
+        1 => drop(pieces.remove(0)),
+        _ => {}
+    }
+    pieces
+}
+
+/// Lays a piece on the page if it fits, now and then beside Erased entries.
+fn lay(random: &mut Random, page: Page, piece: &Piece) -> Page {
+    let erased = if random.once_in(6) { 1 + random.below(4) } else { 0 };
+    let page = if page.next + erased <= ENTRIES { page.erased(erased) } else { page };
+    if page.next + piece.0.span as usize > ENTRIES {
+        return page;
+    }
+    page.put(piece.0, &piece.1)
+}
+
+/// What is laid on the pages, in order.
+fn draw_pieces(random: &mut Random) -> Vec<Piece> {
+    let most = random.choose(&[3, 10, 40, 150, 400]);
+    let mut pieces = Vec::new();
+    for _ in 0..random.below(most + 1) {
+        if random.once_in(12) {
+            pieces.extend(draw_blob(random));
+        } else {
+            pieces.push(draw_plain(random));
+        }
+    }
+    // Two values of a key: the power went before the older was erased.
+    for _ in 0..random.choose(&[0, 0, 1, 2]) {
+        if !pieces.is_empty() {
+            let again = random.choose(&pieces.iter().map(|piece| piece.0).collect::<Vec<_>>());
+            if again.kind != CHUNK && again.kind != INDEX {
+                let number = fields(0x04, again.key, value(random.next() as u32));
+                pieces.push((
+                    Fields { namespace: again.namespace, chunk_index: again.chunk_index, ..number },
+                    Vec::new(),
+                ));
+            }
+        }
+    }
+    pieces
+}
+
+/// A free sector: mostly Blank, else torn in its header or behind it.
+fn draw_free(random: &mut Random) -> Page {
+    match random.below(8) {
+        0 => Page::new(FULL_WORD, random.next() as u32).flip(4 + random.below(24)),
+        1 => Page::blank().flip(64 + random.below(4032)),
+        2 => Page::new(0xFFFF_FFF0, 3),
+        _ => Page::blank(),
+    }
+}
+
+/// How a page ends: with Empty entries, or Erased to its last one.
+fn draw_end(random: &mut Random, page: Page) -> Page {
+    match random.below(6) {
+        0 => {
+            let left = ENTRIES - page.next;
+            page.erased(left)
+        }
+        1 => {
+            let (begin, some) = (page.next, random.below(ENTRIES - page.next + 1));
+            let illegal = if random.once_in(8) { EntryState::Illegal } else { EntryState::Erased };
+            page.states(begin, some, illegal).skip(some)
+        }
+        _ => page,
+    }
+}
+
+fn draw_state_word(random: &mut Random, operation: Operation) -> u32 {
+    match operation {
+        Operation::Reclaim => random.choose(&[FULL_WORD, FULL_WORD, FULL_WORD, FREEING_WORD]),
+        _ => random.choose(&[FULL_WORD, FULL_WORD, FULL_WORD, ACTIVE_WORD, FREEING_WORD]),
+    }
+}
+
+/// Different sequences; now and then equal ones, or at the end of the numbers.
+fn draw_sequences(random: &mut Random, pages: usize) -> Vec<u32> {
+    let base = random.choose(&[0, 1, 7, 100, 0x1234_5678, 0xFFFF_FFE0]);
+    let gap = 1 + random.below(9) as u32;
+    let mut sequences: Vec<u32> = (0..pages as u32).map(|page| base + page * gap.min(2)).collect();
+    if base < 1000 {
+        sequences = (0..pages as u32).map(|page| base + page * gap).collect();
+    }
+    random.shuffle(&mut sequences);
+    if random.once_in(20) {
+        sequences.iter_mut().for_each(|sequence| *sequence /= 2);
+    }
+    sequences
+}
+
+fn draw_store(random: &mut Random, operation: Operation) -> Vec<u8> {
+    let sectors = random.choose(&[2, 2, 2, 2, 3, 3, 3, 4, 4, 5, 6, 8, 16]);
+    let free = random.below(sectors).min(1 + random.below(3));
+    let sequences = draw_sequences(random, sectors - free);
+    let mut pages: Vec<Page> =
+        sequences.iter().map(|sequence| Page::new(draw_state_word(random, operation), *sequence)).collect();
+    for piece in draw_pieces(random) {
+        let place = random.below(pages.len());
+        let page = pages[place].clone();
+        pages[place] = lay(random, page, &piece);
+    }
+    pages = pages.into_iter().map(|page| draw_end(random, page)).collect();
+    pages.extend((0..free).map(|_| draw_free(random)));
+    random.shuffle(&mut pages);
+    pages.into_iter().flat_map(|page| page.bytes).collect()
+}
+
+/// The step after which the power goes: any, but most often one that ends something, so that little is torn.
+fn draw_cut(random: &mut Random, outcome: &Outcome) -> usize {
+    let ends = |place: &usize| match outcome.list[*place].step {
+        Step::Erase { .. } => true,
+        Step::Program { word, .. } => word == 0 || (8..16).contains(&word),
+    };
+    let ended: Vec<usize> = (0..outcome.list.len()).filter(ends).collect();
+    if ended.is_empty() || random.once_in(4) {
+        return random.below(outcome.list.len() + 1);
+    }
+    random.choose(&ended) + 1
+}
+
+/// The image that a call of document 01 leaves where the power goes.
+fn draw_after_cut(random: &mut Random, image: &[u8]) -> Vec<u8> {
+    let reclaims = random.once_in(2);
+    let call = |allowance| match reclaims {
+        true => reclaim(image, allowance),
+        false => recover(image, allowance, &mut [None; 16]),
+    };
+    let steps = draw_cut(random, &call(u64::MAX));
+    call(steps as u64).image
+}
+
+fn draw_case(random: &mut Random, operation: Operation) -> Case {
+    let mut image = draw_store(random, operation);
+    for _ in 0..random.choose(&[0, 0, 0, 1, 1, 2]) {
+        image = draw_after_cut(random, &image);
+    }
+    let records = (image.len() / SECTOR_BYTES) as u32;
+    let whole = Case { operation, allowance: u64::MAX, records, image };
+    if !random.once_in(3) {
+        return whole;
+    }
+    let steps = draw_cut(random, &crate::class::model_outcome(&whole));
+    Case { allowance: steps as u64, ..whole }
+}
+
+/// The case of a number, with the model's answer: it depends on nothing but the operation, the seed and the number.
+pub fn case_of(operation: Operation, seed: u64, number: u64) -> (Case, Outcome) {
+    let mut random = Random::of_case(seed, number);
+    loop {
+        let case = draw_case(&mut random, operation);
+        if let Ok(outcome) = in_class(&case) {
+            return (case, outcome);
+        }
+    }
+}
