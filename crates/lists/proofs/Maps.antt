@@ -1,7 +1,7 @@
 -- What is made of each member: sums and members of `map` and `flatMap`. Assumes nothing.
 use mathlib.Core.Path.{_≡_, refl, ap, _∙_}
-use mathlib.Core.Logic.{_⊎_, inl, inr, ⊎-elim}
-use mathlib.Core.List.{List, [], _∷_, _++_, map, flatMap}
+use mathlib.Core.Logic.{inl, inr, ⊎-elim}
+use mathlib.Core.List.{List, [], _∷_, map, flatMap}
 use Prim.Native.Nat.{ℕ, _+_}
 use Rattle.lists.specs.Lists.{sumOf}
 use Rattle.lists.proofs.Member.{_∈_, nil-left, nil-right, in-left, in-right, in-append}

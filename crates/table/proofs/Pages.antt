@@ -1,22 +1,25 @@
 -- The page list has each sector that is no free one, once, with its record; the free list has the others. Assumes nothing.
-use mathlib.Core.Path.{_≡_, refl, sym, ap, _∙_}
-use mathlib.Core.Logic.{_⊎_, inl, inr, ⊎-elim}
-use mathlib.Core.Bool.{Bool, true, false, cond}
-use mathlib.Core.List.{List, [], _∷_, _++_}
-use Prim.Native.Nat.{ℕ, zero, suc, _+_, _≤_, _<_}
+use mathlib.Core.Path.{_∙_, _≡_, ap, refl, sym}
+use mathlib.Core.Logic.{inl, inr, ⊎-elim}
+use mathlib.Core.Bool.{Bool, cond, false, true}
+use mathlib.Core.List.{List, [], _++_, _∷_}
+use Prim.Native.Nat.{_+_, _<_, _≤_, suc, zero, ℕ}
 use native.Mathlib.Omega.{arith}
 use lib.Dec.{eqb}
 use lib.ListN.{length, length-append}
-use Rattle.entry.specs.States.{one}
-use borrow.Author.Tests.{ne-eqb, eqb-true, eqb-false}
-use Rattle.page.specs.State.{stateOf, isFree}
+use borrow.Author.Tests.{eqb-false, eqb-true, ne-eqb}
+use Rattle.entry.specs.States.{countState, empty, one}
+use Rattle.page.specs.declared.state.PageState.{PageState}
+use Rattle.page.specs.State.{isFree, stateOf}
 use Rattle.flash.specs.Step.{sector}
 use Rattle.lists.specs.Lists.{sumOf}
-use Rattle.lists.proofs.Member.{_∈_, in-left, in-right, in-append}
 use Rattle.lists.proofs.Sums.{sum-append}
+use Rattle.lists.proofs.Member.{_∈_, in-append, in-left, in-right}
 use Rattle.table.specs.declared.Page.{Page}
-use Rattle.table.specs.Table.{sectorsOf, pageAt, pagesTo, freesTo, pages, frees, inSector}
+use Rattle.table.specs.Table.{frees, freesTo, inSector, pageAt, pages, pagesTo, sectorsOf}
+use Rattle.table.proofs.Scanning.{record-state}
 use Rattle.table.proofs.Sectors.{sumTo, sumTo-only}
+use Rattle.table.proofs.Records.{record-empty, record-erased}
 
 module _ (l : List ℕ) where
   pub pagesTo-in : (n : ℕ) (p : Page) → p ∈ pagesTo l n → (p ≡ pageAt (p .sector) l) × (p .sector < n) × (isFree (stateOf (sector (p .sector) l)) ≡ false)
@@ -70,6 +73,20 @@ module _ (l : List ℕ) where
   pub pages-in : (p : Page) → p ∈ pages l → (p ≡ pageAt (p .sector) l) × (p .sector < sectorsOf l) × (isFree (stateOf (sector (p .sector) l)) ≡ false)
   unfolding pages
   pages-in p m = pagesTo-in (sectorsOf l) p m
+
+  -- what the record of a listed page says is read of its sector
+  pub page-state : (p : Page) → p ∈ pages l → p .seen .state ≡ stateOf (sector (p .sector) l)
+  page-state p m = ap {B = PageState} (λ (q : Page). q .seen .state) (pages-in p m .0) ∙ record-state (sector (p .sector) l)
+
+  pub page-empty : (p : Page) → p ∈ pages l → p .seen .empty ≡ countState (sector (p .sector) l) empty
+  page-empty p m = let r = pages-in p m in ap {B = ℕ} (λ (q : Page). q .seen .empty) (r .0) ∙ record-empty (sector (p .sector) l) (r .2)
+
+  pub page-erased : (p : Page) → p ∈ pages l → p .seen .erased ≡ countState (sector (p .sector) l) 0
+  page-erased p m = let r = pages-in p m in ap {B = ℕ} (λ (q : Page). q .seen .erased) (r .0) ∙ record-erased (sector (p .sector) l) (r .2)
+
+  -- a page of the list is known by its sector
+  pub page-same : (p q : Page) → p ∈ pages l → q ∈ pages l → p .sector ≡ q .sector → p ≡ q
+  page-same p q m n e = pages-in p m .0 ∙ ap (λ (u : ℕ). pageAt u l) e ∙ sym (pages-in q n .0)
 
   pub in-pages : (u : ℕ) → u < sectorsOf l → isFree (stateOf (sector u l)) ≡ false → pageAt u l ∈ pages l
   unfolding pages

@@ -1,0 +1,37 @@
+-- Counting the members of a list that pass. Assumes nothing.
+use mathlib.Core.Path.{_≡_, refl}
+use mathlib.Core.Logic.{inl, inr}
+use mathlib.Core.Bool.{Bool, cond, false, true}
+use mathlib.Core.List.{List, [], _∷_}
+use Prim.Native.Nat.{_+_, _≤_}
+use native.Mathlib.Omega.{arith}
+use lib.ListN.{length}
+use Rattle.entry.specs.States.{one}
+use Rattle.lists.specs.Lists.{keep, sumOf}
+use Rattle.lists.proofs.Member.{_∈_}
+
+pub length-one : {A : Type 0} (xs : List A) → length xs ≡ 1 → (x : A) × (xs ≡ x ∷ [])
+length-one [] e = absurd (omega arith)
+length-one (x ∷ []) e = (x, refl)
+length-one (x ∷ (y ∷ ys)) e = absurd (omega arith)
+
+pub one-true : (b : Bool) → b ≡ true → one b ≡ 1
+one-true b e = rw e
+
+pub pos-in : {A : Type 0} (p : A → Bool) (xs : List A) → 1 ≤ sumOf (λ (x : A). one (p x)) xs → (x : A) × (x ∈ xs) × (p x ≡ true)
+unfolding sumOf
+pos-in p [] h = absurd (omega arith)
+pos-in p (x ∷ xs) h = go (p x) refl h (pos-in p xs)
+  where
+    go : (b : Bool) → p x ≡ b → 1 ≤ one b + sumOf (λ (x : _). one (p x)) xs → (1 ≤ sumOf (λ (x : _). one (p x)) xs → (x : _) × (x ∈ xs) × (p x ≡ true)) → (y : _) × (y ∈ (x ∷ xs)) × (p y ≡ true)
+    go true q k ih = (x, inl refl, q)
+    go false q k ih = let r = ih (omega arith) in (r .0, inr (r .1), r .2)
+
+pub length-keep : {A : Type 0} (p : A → Bool) (xs : List A) → length (keep p xs) ≡ sumOf (λ (x : A). one (p x)) xs
+unfolding sumOf keep
+length-keep p [] = refl
+length-keep p (x ∷ xs) = go (p x) (length-keep p xs)
+  where
+    go : (b : Bool) → length (keep p xs) ≡ sumOf (λ (x : _). one (p x)) xs → length (cond b (x ∷ keep p xs) (keep p xs)) ≡ one b + sumOf (λ (x : _). one (p x)) xs
+    go true q = omega arith
+    go false q = omega arith

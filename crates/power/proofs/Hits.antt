@@ -1,0 +1,159 @@
+-- Where stage 3 or the duplicates of stage 4 make a step, one of their steps erases the header of an item that was found. Assumes nothing.
+use mathlib.Core.Path.{_≡_, refl}
+use mathlib.Core.Logic.{_⊎_, inl, inr, ⊎-elim}
+use mathlib.Core.Bool.{Bool, _&&_, _||_, cond, false, not, true}
+use mathlib.Core.Option.{Option, none, some}
+use mathlib.Core.List.{List, [], _++_, _∷_, dropLast, flatMap}
+use Prim.Native.Nat.{_*_, _+_, _-_, _/_, _≤_, suc, zero, ℕ}
+use native.Mathlib.Nat.{add-zero}
+use native.Mathlib.Omega.{arith}
+use lib.Dec.{eqb}
+use Rattle.entry.specs.Fields.{spanOf}
+use Rattle.flash.specs.Step.{Step}
+use Rattle.item.specs.States.{stateWord, statesDown, unmarking}
+use Rattle.item.specs.Erase.{erasing}
+use Rattle.lists.specs.Lists.{best, insertBy, keep, sortBy}
+use Rattle.lists.proofs.Search.{best-in, keep-in}
+use Rattle.lists.proofs.Out.{dropLast-in}
+use Rattle.lists.proofs.Maps.{flatMap-in}
+use Rattle.lists.proofs.Member.{_∈_, in-left, in-right}
+use Rattle.found.specs.Found.{Found, chunkOf, chunks, eraseAll, indexOf, isIndex, newer, startIn, versionOf}
+use Rattle.blobs.specs.Blobs.{blobSteps, bothSound, counting, dropCounting, dropVersion, indices, judge, judgeWith, older, olderWith, sound, versionIn}
+use Rattle.duplicates.specs.Duplicates.{duplicateSteps, groups, members, olderThan, onceEach, outdated, withChunks}
+
+abbrev headWord : Found → ℕ → Step
+headWord x n = stateWord (x .sector * 4096) (x .entry) n 3 (x .entry / 16)
+
+abbrev pub Hit : List Found → List Step → Type 0
+Hit fs ss = (x : Found) × (n : ℕ) × (x ∈ fs) × (1 ≤ n) × (headWord x n ∈ ss)
+
+pub hit-left : (fs : List Found) (a b : List Step) → Hit fs a → Hit fs (a ++ b)
+hit-left fs a b h = (h .0, h .1, h .2, h .3, in-left _ a b (h .4))
+
+hit-right : (fs : List Found) (a b : List Step) → Hit fs b → Hit fs (a ++ b)
+hit-right fs a b h = (h .0, h .1, h .2, h .3, in-right _ a b (h .4))
+
+-- the header's word is the last of an erasure
+down-last : (base j n d w k : ℕ) → stateWord base j n d w ∈ statesDown base j n d w (suc k)
+unfolding statesDown
+down-last base j n d w zero = inl (rw add-zero)
+down-last base j n d w (suc k) = inr (down-last base j n d w k)
+
+erasing-hit : (fs : List Found) (x : Found) (n : ℕ) → x ∈ fs → 1 ≤ n → Hit fs (erasing (x .sector) (x .entry) n)
+unfolding erasing unmarking
+erasing-hit fs x n m h =
+    let k = (x .entry + (n - 1)) / 16 - x .entry / 16 in
+    let q : (x .entry + (n - 1)) / 16 + 1 - x .entry / 16 ≡ suc k = omega arith in
+    (x, n, m, h, rw q (down-last (x .sector * 4096) (x .entry) n 3 (x .entry / 16) k))
+
+abbrev pub Spanned : List Found → Type 0
+Spanned fs = (x : Found) → x ∈ fs → 1 ≤ spanOf (x .raw)
+
+module _ (fs : List Found) (sp : Spanned fs) where
+  all-hit : (xs : List Found) → ((x : Found) → x ∈ xs → x ∈ fs) → (eraseAll xs ≡ []) ⊎ Hit fs (eraseAll xs)
+  unfolding eraseAll flatMap
+  all-hit [] h = inl refl
+  all-hit (x ∷ xs) h = inr (hit-left fs (erasing (x .sector) (x .entry) (spanOf (x .raw))) _ (erasing-hit fs x (spanOf (x .raw)) (h x (inl refl)) (sp x (h x (inl refl)))))
+
+  drop-hit : (v : ℕ) (i : Found) → i ∈ fs → Hit fs (dropVersion v i fs)
+  unfolding dropVersion
+  drop-hit v i m = hit-left fs (erasing (i .sector) (i .entry) 1) _ (erasing-hit fs i 1 m (omega arith))
+
+  counting-in : (v : ℕ) (i : Found) → counting v fs ≡ some i → i ∈ fs
+  unfolding counting
+  counting-in v i e = keep-in (λ (x : Found). indexOf v (x .raw)) fs i (best-in newer (indices v fs) i e) .0
+
+  judge-hit : (v : ℕ) → (judge fs v ≡ []) ⊎ Hit fs (judge fs v)
+  unfolding judge
+  judge-hit v = go (counting v fs) refl
+    where
+      two : (i : Found) → i ∈ fs → (b : Bool) → (cond b [] (dropVersion v i fs) ≡ []) ⊎ Hit fs (cond b [] (dropVersion v i fs))
+      two i m true = inl refl
+      two i m false = inr (drop-hit v i m)
+
+      go : (o : Option Found) → counting v fs ≡ o → (judgeWith v fs o ≡ []) ⊎ Hit fs (judgeWith v fs o)
+      go none q = unfold judgeWith in all-hit (chunks v fs) (λ x m. keep-in (λ (y : Found). chunkOf v (y .raw)) fs x m .0)
+      go (some i) q = unfold judgeWith in two i (counting-in v i q) (sound v fs i)
+
+  counted-hit : (v : ℕ) → (dropCounting v fs (counting v fs) ≡ []) ⊎ Hit fs (dropCounting v fs (counting v fs))
+  counted-hit v = go (counting v fs) refl
+    where
+      go : (o : Option Found) → counting v fs ≡ o → (dropCounting v fs o ≡ []) ⊎ Hit fs (dropCounting v fs o)
+      go none q = unfold dropCounting in inl refl
+      go (some i) q = unfold dropCounting in inr (drop-hit v i (counting-in v i q))
+
+  older-hit : (g : ℕ) → (older fs g ≡ []) ⊎ Hit fs (older fs g)
+  unfolding older
+  older-hit g = one-of (bothSound fs (versionIn g 0) (versionIn g 0x80))
+    where
+      three : (b : Bool) (v w : ℕ) → (cond b (dropCounting w fs (counting w fs)) (dropCounting v fs (counting v fs)) ≡ []) ⊎ Hit fs (cond b (dropCounting w fs (counting w fs)) (dropCounting v fs (counting v fs)))
+      three true v w = counted-hit w
+      three false v w = counted-hit v
+
+      two : (o : Option Found) (v w : ℕ) → (olderWith v w fs o ≡ []) ⊎ Hit fs (olderWith v w fs o)
+      two none v w = unfold olderWith in inl refl
+      two (some i) v w = unfold olderWith in three (eqb (versionOf (i .raw)) v) v w
+
+      one-of : (b : Bool) → (cond b (olderWith (versionIn g 0) (versionIn g 0x80) fs (best newer (keep (λ (x : Found). ((indexOf (versionIn g 0) (x .raw)) || (indexOf (versionIn g 0x80) (x .raw)))) fs))) [] ≡ [])
+          ⊎ Hit fs (cond b (olderWith (versionIn g 0) (versionIn g 0x80) fs (best newer (keep (λ (x : Found). ((indexOf (versionIn g 0) (x .raw)) || (indexOf (versionIn g 0x80) (x .raw)))) fs))) [])
+      one-of true = two (best newer (keep (λ (x : Found). ((indexOf (versionIn g 0) (x .raw)) || (indexOf (versionIn g 0x80) (x .raw)))) fs)) (versionIn g 0) (versionIn g 0x80)
+      one-of false = inl refl
+
+  append-hit : (a b : List Step) → (a ≡ []) ⊎ Hit fs a → (b ≡ []) ⊎ Hit fs b → (a ++ b ≡ []) ⊎ Hit fs (a ++ b)
+  append-hit a b (inr h) k = inr (hit-left fs a b h)
+  append-hit a b (inl e) (inr h) = inr (hit-right fs a b h)
+  append-hit a b (inl e) (inl f) = inl (rw (e, f))
+
+  flatMap-hit : (g : ℕ → List Step) → ((c : ℕ) → (g c ≡ []) ⊎ Hit fs (g c)) → (cs : List ℕ) → (flatMap g cs ≡ []) ⊎ Hit fs (flatMap g cs)
+  unfolding flatMap
+  flatMap-hit g h [] = inl refl
+  flatMap-hit g h (c ∷ cs) = append-hit (g c) (flatMap g cs) (h c) (flatMap-hit g h cs)
+
+  pub blobs-hit : (blobSteps fs ≡ []) ⊎ Hit fs (blobSteps fs)
+  unfolding blobSteps
+  blobs-hit = append-hit _ _ (flatMap-hit (judge fs) judge-hit _) (flatMap-hit (older fs) older-hit _)
+
+  -- stage 4
+  insert-in : (x : Found) (ys : List Found) (z : Found) → z ∈ insertBy olderThan x ys → (z ≡ x) ⊎ (z ∈ ys)
+  unfolding insertBy
+  insert-in x [] z (inl e) = inl e
+  insert-in x [] z (inr m) = absurd m
+  insert-in x (y ∷ ys) z m = go (olderThan y x) m (insert-in x ys z)
+    where
+      go : (b : Bool) → z ∈ cond b (y ∷ insertBy olderThan x ys) (x ∷ (y ∷ ys)) → (z ∈ insertBy olderThan x ys → (z ≡ x) ⊎ (z ∈ ys)) → (z ≡ x) ⊎ (z ∈ (y ∷ ys))
+      go true (inl e) ih = inr (inl e)
+      go true (inr k) ih = ⊎-elim (λ w. inl w) (λ w. inr (inr w)) (ih k)
+      go false (inl e) ih = inl e
+      go false (inr k) ih = inr k
+
+  sort-in : (xs : List Found) (z : Found) → z ∈ sortBy olderThan xs → z ∈ xs
+  unfolding sortBy
+  sort-in [] z m = absurd m
+  sort-in (x ∷ xs) z m = ⊎-elim (λ e. inl e) (λ k. inr (sort-in xs z k)) (insert-in x (sortBy olderThan xs) z m)
+
+  with-in : (o : Option Found) (x z : Found) → x ∈ fs → z ∈ withChunks fs o x → z ∈ fs
+  unfolding withChunks
+  with-in none x z m (inl e) = rw e m
+  with-in none x z m (inr k) = absurd k
+  with-in (some k) x z m (inl e) = rw e m
+  with-in (some k) x z m (inr w) = go (((isIndex (x .raw)) && (not (((isIndex (k .raw)) && (eqb (startIn (k .raw)) (startIn (x .raw)))))))) w
+    where
+      go : (b : Bool) → z ∈ cond b (chunks (versionOf (x .raw)) fs) [] → z ∈ fs
+      go true y = keep-in (λ (u : Found). chunkOf (versionOf (x .raw)) (u .raw)) fs z y .0
+      go false y = absurd y
+
+  outdated-in : (g : ℕ) (z : Found) → z ∈ outdated fs g → z ∈ fs
+  unfolding outdated
+  outdated-in g z m =
+      let r = flatMap-in (withChunks fs (best newer (members g fs))) (dropLast (sortBy olderThan (members g fs))) z m in
+      with-in (best newer (members g fs)) (r .0) z (keep-in _ fs (r .0) (sort-in (members g fs) (r .0) (dropLast-in (sortBy olderThan (members g fs)) (r .0) (r .1))) .0) (r .2)
+
+  once-in : (xs : List Found) (z : Found) → z ∈ onceEach xs → z ∈ xs
+  unfolding onceEach
+  once-in [] z m = absurd m
+  once-in (x ∷ xs) z (inl e) = inl e
+  once-in (x ∷ xs) z (inr k) = inr (once-in xs z (keep-in _ (onceEach xs) z k .0))
+
+  pub dup-hit : (duplicateSteps fs ≡ []) ⊎ Hit fs (duplicateSteps fs)
+  unfolding duplicateSteps
+  dup-hit = all-hit _ (λ x m. let r = flatMap-in (outdated fs) (groups fs) x (once-in (flatMap (outdated fs) (groups fs)) x m) in outdated-in (r .0) x (r .2))

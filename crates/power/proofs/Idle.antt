@@ -1,0 +1,135 @@
+-- Stages 3 and 4 make no step where the items are calm, which is a fact of sums over their bytes: so it goes over to any store with the same sums.
+-- Assumes nothing.
+use mathlib.Core.Path.{_∙_, _≡_, refl, sym}
+use mathlib.Core.Bool.{Bool, _&&_, _||_, cond, false, true}
+use mathlib.Core.Option.{Option, none, some}
+use mathlib.Core.List.{List, [], _∷_, flatMap, map}
+use Prim.Native.Nat.{_+_, _-_, _/_, _≤_, suc, ℕ}
+use native.Mathlib.Omega.{arith}
+use lib.Dec.{eqb}
+use borrow.Author.Tests.{eq-eqb}
+use Rattle.entry.specs.States.{one}
+use Rattle.entry.specs.Fields.{indexCount, indexSize, spanOf}
+use Rattle.page.proofs.Tests.{both-first, both-second}
+use Rattle.item.specs.States.{statesDown, unmarking}
+use Rattle.item.specs.Erase.{erasing}
+use Rattle.lists.specs.Lists.{ascending, best, better, keep, sortBy, sumOf}
+use Rattle.lists.proofs.Sums.{sum-ge, sum-keep, sum-one}
+use Rattle.lists.proofs.Search.{best-in, keep-in}
+use Rattle.lists.proofs.Maps.{flatMap-none, map-in}
+use Rattle.lists.proofs.Sorting.{dropLast-short, length-sort}
+use Rattle.lists.proofs.Ascending.{ascending-in}
+use Rattle.lists.proofs.Member.{_∈_, nil-left, nil≢, true≢false}
+use Rattle.found.specs.Found.{Found, chunkOf, eraseAll, groupOf, indexOf, isIndex, isPart, newer, versionOf}
+use Rattle.blobs.specs.Blobs.{blobSteps, bothSound, counting, indices, judge, judgeWith, older, olderWith, sizeIn, sound, soundOne, versionIn}
+use Rattle.duplicates.specs.Duplicates.{duplicateSteps, groups, members, olderThan, onceEach, outdated, ranked}
+use Rattle.power.proofs.Counts.{length-keep, length-one, one-true}
+use Rattle.power.proofs.Items.{both-is}
+
+-- f summed over the bytes of the items found
+abbrev pub tot : (List ℕ → ℕ) → List Found → ℕ
+tot f fs = sumOf (λ (x : Found). f (x .raw)) fs
+
+abbrev pub partOf : ℕ → List ℕ → Bool
+partOf v r = ((isPart r) && (eqb (versionOf r) v))
+
+abbrev pub inGroup : ℕ → List ℕ → Bool
+inGroup g r = ((ranked r) && (eqb (groupOf r) g))
+
+-- all in sums: so it goes over to any store with the same sums
+pub record Calm (T : (List ℕ → ℕ) → ℕ) : Type 0 where
+  pub single : (g : ℕ) → T (λ (r : List ℕ). one (inGroup g r)) ≤ 1
+  pub lone : (v : ℕ) → T (λ (r : List ℕ). one (indexOf v r)) ≤ 1
+  pub not-both : (g : ℕ) → T (λ (r : List ℕ). one (indexOf (versionIn g 0) r)) + T (λ (r : List ℕ). one (indexOf (versionIn g 0x80) r)) ≤ 1
+  pub has : (v : ℕ) → 1 ≤ T (λ (r : List ℕ). one (partOf v r)) → 1 ≤ T (λ (r : List ℕ). one (indexOf v r))
+  pub count : (v : ℕ) → 1 ≤ T (λ (r : List ℕ). one (indexOf v r)) → T (λ (r : List ℕ). cond (indexOf v r) (indexCount r) 0) ≡ T (λ (r : List ℕ). one (chunkOf v r))
+  pub size : (v : ℕ) → 1 ≤ T (λ (r : List ℕ). one (indexOf v r)) → T (λ (r : List ℕ). cond (indexOf v r) (indexSize r) 0) ≡ T (sizeIn v)
+
+-- ---- an erasure has a step
+pub erase-some : (s i n : ℕ) → erasing s i n ≡ [] → ⊥
+unfolding erasing unmarking statesDown
+erase-some s i n e =
+    let k = (i + (n - 1)) / 16 - i / 16 in
+    let q : (i + (n - 1)) / 16 + 1 - i / 16 ≡ suc k = omega arith in
+    nil≢ (rw q at e)
+
+pub eraseAll-none : (xs : List Found) → eraseAll xs ≡ [] → xs ≡ []
+unfolding eraseAll flatMap
+eraseAll-none [] e = refl
+eraseAll-none (x ∷ xs) e = absurd (erase-some (x .sector) (x .entry) (spanOf (x .raw)) (nil-left _ _ e))
+
+pub eraseAll-nil : (xs : List Found) → xs ≡ [] → eraseAll xs ≡ []
+unfolding eraseAll flatMap
+eraseAll-nil xs e = rw e
+
+-- ---- from the sums to idleness
+module _ (fs : List Found) (C : Calm (λ (f : List ℕ → ℕ). tot f fs)) where
+  index-only : (v : ℕ) → 1 ≤ tot (λ (r : List ℕ). one (indexOf v r)) fs → (i : Found) × (indices v fs ≡ i ∷ [])
+  index-only v h = let a = C .lone v in let b = length-keep (λ (x : Found). indexOf v (x .raw)) fs in length-one (indices v fs) (omega arith)
+
+  sound-is : (v : ℕ) (i : Found) → indices v fs ≡ i ∷ [] → 1 ≤ tot (λ (r : List ℕ). one (indexOf v r)) fs → sound v fs i ≡ true
+  unfolding sound
+  sound-is v i e h =
+      let a = sum-keep (λ (x : Found). indexOf v (x .raw)) (λ (x : Found). indexCount (x .raw)) fs in
+      let b = sum-keep (λ (x : Found). indexOf v (x .raw)) (λ (x : Found). indexSize (x .raw)) fs in
+      let c = sum-one (λ (x : Found). indexCount (x .raw)) (indices v fs) i e in
+      let d = sum-one (λ (x : Found). indexSize (x .raw)) (indices v fs) i e in
+      both-is _ _ (eq-eqb _ _ (sym c ∙ a ∙ C .count v h)) (eq-eqb _ _ (sym d ∙ b ∙ C .size v h))
+
+  judge-idle : (v : ℕ) → 1 ≤ tot (λ (r : List ℕ). one (partOf v r)) fs → judge fs v ≡ []
+  unfolding judge judgeWith counting best better
+  judge-idle v h =
+      let n = C .has v h in
+      let i = index-only v n in
+      rw (i .1, sound-is v (i .0) (i .1) n)
+
+  -- (sound: && both) have an index
+  has-index : (v : ℕ) → soundOne v fs (counting v fs) ≡ true → 1 ≤ tot (λ (r : List ℕ). one (indexOf v r)) fs
+  has-index v e = go (counting v fs) refl e
+    where
+      go : (o : Option Found) → counting v fs ≡ o → soundOne v fs o ≡ true → 1 ≤ tot (λ (r : List ℕ). one (indexOf v r)) fs
+      go none q k = unfold soundOne in absurd (true≢false k refl)
+      go (some i) q k =
+          let m = keep-in (λ (x : Found). indexOf v (x .raw)) fs i (best-in newer (indices v fs) i (unfold counting in q)) in
+          let g = sum-ge (λ (x : Found). one (indexOf v (x .raw))) fs i (m .0) in
+          let z = one-true (indexOf v (i .raw)) (m .1) in
+          omega arith
+
+  older-idle : (g : ℕ) → older fs g ≡ []
+  unfolding older bothSound
+  older-idle g = go (bothSound fs (versionIn g 0) (versionIn g 0x80)) refl
+    where
+      go : (b : Bool) → bothSound fs (versionIn g 0) (versionIn g 0x80) ≡ b → cond b (olderWith (versionIn g 0) (versionIn g 0x80) fs (best newer (keep (λ (x : Found). ((indexOf (versionIn g 0) (x .raw)) || (indexOf (versionIn g 0x80) (x .raw)))) fs))) [] ≡ []
+      go false q = refl
+      go true q =
+          let a = has-index (versionIn g 0) (both-first (soundOne (versionIn g 0) fs (counting (versionIn g 0) fs)) _ q) in
+          let b = has-index (versionIn g 0x80) (both-second (soundOne (versionIn g 0) fs (counting (versionIn g 0) fs)) _ q) in
+          let c = C .not-both g in
+          absurd (omega arith)
+
+  pub blob-idle : blobSteps fs ≡ []
+  unfolding blobSteps
+  blob-idle =
+      let p = flatMap-none (judge fs) (ascending (map (λ (x : Found). versionOf (x .raw)) (keep (λ (x : Found). isPart (x .raw)) fs))) (λ v m. one-version v (ascending-in _ v m)) in
+      let q = flatMap-none (older fs) (ascending (map (λ (x : Found). groupOf (x .raw)) (keep (λ (x : Found). isIndex (x .raw)) fs))) (λ g m. older-idle g) in
+      rw (p, q)
+    where
+      one-version : (v : ℕ) → v ∈ map (λ (x : Found). versionOf (x .raw)) (keep (λ (x : Found). isPart (x .raw)) fs) → judge fs v ≡ []
+      one-version v m =
+          let r = map-in (λ (x : Found). versionOf (x .raw)) (keep (λ (x : Found). isPart (x .raw)) fs) v m in
+          let k = keep-in (λ (x : Found). isPart (x .raw)) fs (r .0) (r .1) in
+          let g = sum-ge (λ (x : Found). one (partOf v (x .raw))) fs (r .0) (k .0) in
+          let z = one-true (partOf v (r .0 .raw)) (both-is (isPart (r .0 .raw)) (eqb (versionOf (r .0 .raw)) v) (k .1) (eq-eqb _ v (sym (r .2)))) in
+          judge-idle v (omega arith)
+
+  outdated-none : (g : ℕ) → outdated fs g ≡ []
+  unfolding outdated flatMap
+  outdated-none g =
+      let a = C .single g in
+      let b = length-keep (λ (x : Found). inGroup g (x .raw)) fs in
+      let c = length-sort olderThan (members g fs) in
+      rw (dropLast-short (sortBy olderThan (members g fs)) (omega arith))
+
+  pub duplicate-idle : duplicateSteps fs ≡ []
+  unfolding duplicateSteps onceEach
+  duplicate-idle = rw (flatMap-none (outdated fs) (groups fs) (λ g m. outdated-none g)) (eraseAll-nil [] refl)

@@ -1,0 +1,91 @@
+-- What the walk finds: an item is Written, its header is right and its span ends on the page, and its bytes begin with the header. Assumes nothing.
+use mathlib.Core.Path.{_∙_, _≡_, refl, sym}
+use mathlib.Core.Logic.{inl, inr}
+use mathlib.Core.Bool.{Bool, _&&_, cond, false, true}
+use mathlib.Core.List.{List, [], _∷_}
+use Prim.Native.Nat.{_*_, _+_, _<_, _≤_, suc, zero, ℕ}
+use native.Mathlib.Omega.{arith}
+use lib.Dec.{eqb}
+use lib.ListN.{getD}
+use borrow.Author.Tests.{eq-eqb, eqb-true, le-leb}
+use Rattle.word.proofs.Bytes.{part-byte}
+use Rattle.entry.specs.States.{stateAt, written}
+use Rattle.entry.specs.Fields.{entryAt, spanOf}
+use Rattle.page.specs.State.{isFree, stateOf}
+use Rattle.page.specs.Walk.{Laid, fits, isItem, itemsOf, laidAt, onFrom, readable, rightHeader, walk}
+use Rattle.page.proofs.Tests.{both-first, both-second}
+use Rattle.page.proofs.Walking.{item-span}
+use Rattle.flash.specs.Step.{sector}
+use Rattle.lists.proofs.Member.{_∈_}
+use Rattle.table.specs.Table.{itemsIn}
+
+pub both-is : (a b : Bool) → a ≡ true → b ≡ true → a && b ≡ true
+both-is a b p q = rw (p, q)
+
+-- the bytes of the item at entry i, header and payload
+abbrev pub rawAt : List ℕ → ℕ → List ℕ
+rawAt t i = laidAt t i .raw
+
+pub record IsItem (t : List ℕ) (i : ℕ) : Type 0 where
+  pub is-written : stateAt t i ≡ written
+  pub right : rightHeader (entryAt t i) ≡ true
+  pub some : 1 ≤ spanOf (entryAt t i)
+  pub ends : i + spanOf (entryAt t i) ≤ 126
+
+pub item-is : (t : List ℕ) (i : ℕ) → isItem t i ≡ true → IsItem t i
+item-is t i e =
+    let s = item-span t i e in
+    let r = both-first (readable t i) _ (opened e) in
+    record {
+      is-written = eqb-true (stateAt t i) written (both-first (eqb (stateAt t i) written) _ r);
+      right = both-second (eqb (stateAt t i) written) _ r;
+      some = s .0;
+      ends = s .1;
+    }
+  where
+    opened : isItem t i ≡ true → readable t i && fits i (spanOf (entryAt t i)) ≡ true
+    opened q = unfold isItem in q
+
+pub is-item : (t : List ℕ) (i : ℕ) → IsItem t i → isItem t i ≡ true
+unfolding isItem
+is-item t i h =
+    both-is _ _ (both-is _ _ (eq-eqb (stateAt t i) written (h .is-written)) (h .right)) (both-is _ _ (le-leb 1 _ (h .some)) (le-leb _ 126 (h .ends)))
+
+pub record Real (t : List ℕ) (x : Laid) : Type 0 where
+  pub is : IsItem t (x .entry)
+  pub bytes : x .raw ≡ rawAt t (x .entry)
+
+pub walk-in : (t : List ℕ) (n i : ℕ) (x : Laid) → x ∈ walk t n i → Real t x
+unfolding walk
+walk-in t zero i x m = absurd m
+walk-in t (suc n) i x m = go (isItem t i) refl m (walk-in t n (onFrom t i) x)
+  where
+    go : (b : Bool) → isItem t i ≡ b → x ∈ cond b (laidAt t i ∷ walk t n (onFrom t i)) (walk t n (onFrom t i)) → (x ∈ walk t n (onFrom t i) → Real t x) → Real t x
+    go true q (inl r) f = rw r (record { is = item-is t i q; bytes = refl })
+    go true q (inr k) f = f k
+    go false q k f = f k
+
+pub items-in : (t : List ℕ) (x : Laid) → x ∈ itemsOf t → Real t x
+unfolding itemsOf
+items-in t x m = go (isFree (stateOf t)) m
+  where
+    go : (b : Bool) → x ∈ cond b [] (walk t 126 0) → Real t x
+    go true k = absurd k
+    go false k = walk-in t 126 0 x k
+
+pub raw-byte : (t : List ℕ) (i j : ℕ) → IsItem t i → j < 32 → getD (rawAt t i) j 0 ≡ getD (entryAt t i) j 0
+raw-byte t i j h k =
+    let a = h .some in
+    part-byte t (64 + i * 32) (spanOf (entryAt t i) * 32) j (omega arith) ∙ sym (part-byte t (64 + i * 32) 32 j k)
+
+pub raw-span : (t : List ℕ) (i : ℕ) → IsItem t i → spanOf (rawAt t i) ≡ spanOf (entryAt t i)
+raw-span t i h = raw-byte t i 2 h (omega arith)
+
+-- "A Blank or Corrupt sector has none"; of a page that is listed the walk's items are all
+pub free-none : (t : List ℕ) → isFree (stateOf t) ≡ true → itemsOf t ≡ []
+unfolding itemsOf
+free-none t e = rw e
+
+pub listed-items : (u : ℕ) (l : List ℕ) → isFree (stateOf (sector u l)) ≡ false → itemsIn u l ≡ itemsOf (sector u l)
+unfolding itemsIn itemsOf
+listed-items u l e = rw e

@@ -1,0 +1,128 @@
+-- What the premises of demand 3 give: every page is Full, recovery makes no step, and the items are calm. Assumes nothing.
+use mathlib.Core.Path.{_≡_, ap, refl}
+use mathlib.Core.Logic.{⊎-elim}
+use mathlib.Core.Bool.{Bool, _&&_, _||_, false, true}
+use mathlib.Core.List.{List, []}
+use Prim.Native.Nat.{_*_, _+_, _<_, ℕ}
+use native.Mathlib.Omega.{arith}
+use lib.Dec.{eqb, ltb}
+use lib.ListN.{getD}
+use borrow.Author.Tests.{eq-eqb, ltb-true}
+use Rattle.entry.specs.States.{one}
+use Rattle.entry.specs.Fields.{entryAt, namespaceOf, spanOf}
+use Rattle.page.specs.declared.state.PageState.{PageState}
+use Rattle.page.specs.declared.state.PageState.the-variants.{Active, Blank, Corrupt, Freeing, Full}
+use Rattle.page.specs.Record.{recordOf}
+use Rattle.page.specs.State.{isFree, sequenceOf, stateOf}
+use Rattle.page.specs.Walk.{Laid}
+use Rattle.flash.specs.Step.{sector}
+use Rattle.flash.proofs.Order.{le-or-gt}
+use Rattle.lists.proofs.Sums.{sum-ge}
+use Rattle.lists.proofs.Search.{every-of, some-is}
+use Rattle.lists.proofs.Maps.{flatMap-in, map-in}
+use Rattle.lists.proofs.Member.{_∈_, true≢false}
+use Rattle.table.specs.declared.Page.{Page}
+use Rattle.table.specs.Table.{active, activePage, freeing, freeingPage, itemsIn, pageAt, pages, sectorsOf, sequence}
+use Rattle.table.proofs.Scanning.{record-state}
+use Rattle.table.proofs.Pages.{in-pages}
+use Rattle.table.proofs.Records.{record-sequence}
+use Rattle.found.specs.Found.{Found, found, foundOn, isPart}
+use Rattle.power.specs.Demand3.{Store, total}
+use Rattle.power.proofs.Quiet.{calm-stable}
+use Rattle.power.proofs.Idle.{Calm}
+use Rattle.power.proofs.Plain.{plain, plain-same}
+use Rattle.power.proofs.State.{Good}
+use Rattle.power.proofs.Calm.{Tidy}
+use Rattle.power.proofs.Unchanged.{no-steps}
+use Rattle.power.proofs.Steps.{free-neither}
+use Rattle.power.proofs.Keys.{key-lt}
+use Rattle.power.proofs.Items.{both-is, walk-in}
+use Rattle.power.proofs.Copies.{part-small}
+use Rattle.power.proofs.Totals.{total-found}
+
+module _ (L : List ℕ) (S : Store L) where
+  abbrev n : ℕ
+  n = sectorsOf L
+
+  neither : (p : Page) → p ∈ pages L → activePage p || freeingPage p ≡ false
+  neither p m = go (activePage p || freeingPage p) refl
+    where
+      go : (b : Bool) → activePage p || freeingPage p ≡ b → activePage p || freeingPage p ≡ false
+      go false e = e
+      go true e = absurd (true≢false (some-is (λ (z : Page). activePage z || freeingPage z) (pages L) p m e) (S .active-or-freeing))
+
+  pub no-active : (p : Page) → p ∈ pages L → activePage p ≡ false
+  no-active p m = go (activePage p) (neither p m)
+    where
+      go : (b : Bool) → b || freeingPage p ≡ false → b ≡ false
+      go true e = absurd (true≢false refl e)
+      go false e = refl
+
+  pub no-freeing : (p : Page) → p ∈ pages L → freeingPage p ≡ false
+  no-freeing p m = go (activePage p) (neither p m)
+    where
+      go : (b : Bool) → b || freeingPage p ≡ false → freeingPage p ≡ false
+      go true e = absurd (true≢false refl e)
+      go false e = e
+
+  -- the same of a sector
+  state-of : (u : ℕ) → u < n → (active (stateOf (sector u L)) ≡ false) × (freeing (stateOf (sector u L)) ≡ false)
+  state-of u h = go (isFree (stateOf (sector u L))) refl
+    where
+      go : (b : Bool) → isFree (stateOf (sector u L)) ≡ b → (active (stateOf (sector u L)) ≡ false) × (freeing (stateOf (sector u L)) ≡ false)
+      go true e = free-neither (stateOf (sector u L)) e
+      go false e =
+          let m = in-pages L u h e in
+          let r = record-state (sector u L) in
+          (rw r at (no-active (pageAt u L) m), rw r at (no-freeing (pageAt u L) m))
+
+  is-full : (u : ℕ) → u < n → isFree (stateOf (sector u L)) ≡ false → stateOf (sector u L) ≡ Full
+  is-full u h f = go (stateOf (sector u L)) f (state-of u h .0) (state-of u h .1)
+    where
+      go : (M : PageState) → isFree M ≡ false → active M ≡ false → freeing M ≡ false → M ≡ Full
+      go Blank f a b = absurd (true≢false refl f)
+      go Corrupt f a b = absurd (true≢false refl f)
+      go Active f a b = absurd (true≢false refl a)
+      go Full f a b = refl
+      go Freeing f a b = absurd (true≢false refl b)
+
+  below-at : (u : ℕ) → u < n → isFree (stateOf (sector u L)) ≡ false → sequenceOf (sector u L) < 0xFFFFFFF0
+  below-at u h f =
+      let a = every-of (λ (p : Page). ltb (sequence p) 0xFFFFFFF0) (pages L) (S .below) (pageAt u L) (in-pages L u h f) in
+      let b = ltb-true (recordOf (sector u L) .sequence) 0xFFFFFFF0 a in
+      let c = record-sequence (sector u L) f in
+      omega arith
+
+  pub good : (s : ℕ) → s < n → isFree (stateOf (sector s L)) ≡ false → Good L s
+  good s h p = record { here = h; page = p; fulls = is-full; below = below-at; unique = S .unshared }
+
+  -- ---- the items
+
+  raw-small : (u : ℕ) (i : Laid) → i ∈ itemsIn u L → (j : ℕ) → getD (i .raw) j 0 < 256
+  unfolding itemsIn
+  raw-small u i m j =
+      rw (walk-in (sector u L) 126 0 i m .bytes)
+      (part-small (sector u L) (64 + i .entry * 32) (spanOf (entryAt (sector u L) (i .entry)) * 32) (λ k. unfold sector in part-small L (u * 4096) 4096 (S .bytes) k) j)
+
+  tidy : Tidy (found (pages L) L)
+  unfolding found foundOn
+  tidy x m =
+      let g = flatMap-in (foundOn L) (pages L) x m in
+      let k = map-in _ (itemsIn (g .0 .sector) L) x (g .2) in
+      let e : x .raw ≡ k .0 .raw = ap {B = List ℕ} (λ (z : Found). z .raw) (k .2) in
+      (key-lt (x .raw) (λ j. rw e (raw-small (g .0 .sector) (k .0) (k .1) j)), λ ip. ⊎-elim (λ h. h) (λ h. absurd (clash ip (omega arith))) (le-or-gt 1 (namespaceOf (x .raw))))
+    where
+      clash : isPart (x .raw) ≡ true → namespaceOf (x .raw) ≡ 0 → ⊥
+      clash ip z =
+          let f : List ℕ → ℕ = (λ (r : List ℕ). one (isPart r && eqb (namespaceOf r) 0)) in
+          let a = sum-ge (λ (y : Found). f (y .raw)) (found (pages L) L) x m in
+          let b = total-found f L in
+          let c = S .part-in-0 in
+          let d : f (x .raw) ≡ 1 = rw (both-is (isPart (x .raw)) (eqb (namespaceOf (x .raw)) 0) ip (eq-eqb _ 0 z)) in
+          omega arith
+
+  pub no-step : plain L ≡ []
+  no-step = no-steps L no-active no-freeing (rw (plain-same L) at (S .unchanged))
+
+  pub calm-items : Calm (λ (f : List ℕ → ℕ). total f L)
+  calm-items = calm-stable L (λ u h. state-of u h .0) (λ u h. state-of u h .1) tidy no-step
