@@ -31,3 +31,9 @@ pub extern "C" fn timing_reader(sector: &[u8]) -> usize {
     }
     count
 }
+
+// How many steps one reclaim of an image makes.
+#[no_mangle]
+pub extern "C" fn timing_reclaim(image: &mut [u8], allowance: u64) -> u64 {
+    answer::steps(reclaim::reclaim(image, allowance))
+}
