@@ -3,3 +3,6 @@ pub mod Records
 pub mod Pages
 pub mod Scanning
 pub mod Listing
+pub mod Out
+pub mod Seeking
+pub mod Places

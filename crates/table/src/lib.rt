@@ -2,11 +2,13 @@
 use page::PageRecord;
 use page::PageState;
 ghost use mathlib.Core.Path.{_≡_};
-ghost use Prim.Native.Nat.{max, _*_, _≤_};
+ghost use mathlib.Core.List.{[], _∷_, _++_, dropLast};
+ghost use Prim.Native.Nat.{max, _-_, _*_, _≤_, _<_};
 ghost use lib.ListN.{length};
 ghost use Rattle.crc.specs.Table.{crcTable};
-ghost use Rattle.lists.specs.Lists.{greatest, some-of};
-ghost use Rattle.table.specs.Table.{wholeSectors, pages, frees, active, sequence, activePage, listed, Sized, Holds};
+ghost use Rattle.lists.specs.Lists.{greatest, some-of, firstOf, takeOut};
+ghost use Rattle.table.specs.Table.{wholeSectors, pages, frees, active, sequence, activePage, inSector, asFull, listed, freed, Sized, Holds};
+ghost use Rattle.table.specs.Sought.{soughtOf, codeOf, inState};
 
 // A page of the list: its sector, and the record that the scan made of it.
 pub struct Page {
@@ -96,7 +98,7 @@ pub fn is_whole(image: &[u8]) -> bool
     sectors <= 16
 }
 
-fn larger(a: u32, b: u32) -> u32
+pub fn larger(a: u32, b: u32) -> u32
     ensures { λ r. ⌜ r ≡ max a b ⌝ }
 {
     if a < b { b } else { a }
@@ -135,4 +137,100 @@ pub fn any_active(t: Table) -> bool
         i += 1;
     }
     false
+}
+
+// The same page, counting as Full.
+pub fn as_full(p: Page) -> Page
+    ensures { λ r. ⌜ r ≡ asFull p ⌝ }
+{
+    let seen = p.seen;
+    Page {
+        sector: p.sector,
+        seen: PageRecord {
+            state: PageState::Full,
+            sequence: seen.sequence,
+            written: seen.written,
+            erased: seen.erased,
+            empty: seen.empty,
+            illegal: seen.illegal,
+        },
+    }
+}
+
+// The list without the first page in `sector`: the last of the list takes its place.
+pub fn take_out(t: Table, sector: usize) -> Table
+    requires { ⌜ Sized t ⌝ }
+    ensures { λ r. ⌜ Holds r (takeOut (inSector sector) (listed t)) (freed t) × (r .count ≡ t .count - 1) ⌝ }
+{
+    if t.count == 0 {
+        return t;
+    }
+    let last = t.count - 1;
+    let z = t.pages[last];
+    let mut out = t;
+    out.count = last;
+    if z.sector == sector {
+        return out;
+    }
+    let mut i: usize = 0;
+    while i < last {
+        let p = t.pages[i];
+        if p.sector == sector {
+            out.pages[i] = z;
+            return out;
+        }
+        i += 1;
+    }
+    out
+}
+
+// The list with a page more at its end.
+pub fn append_page(t: Table, p: Page) -> Table
+    requires { ⌜ Sized t × (t .count < 16) ⌝ }
+    ensures { λ r. ⌜ Holds r (listed t ++ (p ∷ [])) (freed t) ⌝ }
+{
+    let mut out = t;
+    let n = out.count;
+    out.pages[n] = p;
+    out.count = n + 1;
+    out
+}
+
+// A page that is sought in the list.
+pub enum Sought {
+    Found(Page),
+    Nothing,
+}
+
+// A number for each state: an enum has no test for equality.
+fn code_of(state: PageState) -> u8
+    ensures { λ r. ⌜ r ≡ codeOf state ⌝ }
+{
+    match state {
+        PageState::Blank => 0,
+        PageState::Corrupt => 1,
+        PageState::Active => 2,
+        PageState::Full => 3,
+        PageState::Freeing => 4,
+    }
+}
+
+// The first page of the list in the state `wanted`.
+pub fn first_in(t: Table, wanted: PageState) -> Sought
+    requires { ⌜ Sized t ⌝ }
+    ensures { λ r. ⌜ r ≡ soughtOf (firstOf (inState wanted) (listed t)) ⌝ }
+{
+    let code = code_of(wanted);
+    let count = t.count;
+    let mut i: usize = 0;
+    while i < count {
+        let p = t.pages[i];
+        let seen = p.seen;
+        let state = seen.state;
+        if code_of(state) == code {
+            return Sought::Found(p);
+        }
+        i += 1;
+    }
+    Sought::Nothing
 }

@@ -1,0 +1,65 @@
+-- A turn of each loop of stage 1, and a list whose pages are closed one by one. Assumes nothing.
+use mathlib.Core.Path.{_≡_, refl, sym, ap, _∙_}
+use mathlib.Core.Bool.{Bool, true, false, cond}
+use mathlib.Core.Option.{some}
+use mathlib.Core.List.{List, [], _∷_, _++_, map}
+use Prim.Native.Nat.{ℕ, suc, _+_, _<_, _≤_}
+use native.Mathlib.Numerals.{add-one}
+use lib.ListN.{length, take, drop, getD, set}
+use lib.Seq.{take-suc, take-suc-set}
+use Rattle.lists.specs.Lists.{keep, best}
+use Rattle.table.specs.declared.Page.{Page}
+use Rattle.table.specs.Table.{activePage, asFull}
+use Rattle.table.specs.Sought.{soughtOf, betterOf}
+use Rattle.table.proofs.Seeking.{best-more}
+use Rattle.item.specs.Mark.{markFull}
+use Rattle.lists.proofs.Member.{_∈_}
+use Rattle.lists.proofs.Search.{keep-in, best-in}
+use Rattle.order.specs.Order.{kept, others, noEmpty, orderSteps, orderList, ordering, ordered}
+use Rattle.order.specs.Turns.{over, keptOf, closed, fullMarks, keptMark}
+
+pub kept-more : (x : Page) (xs : List Page) → keptOf x (soughtOf (best over (keep activePage xs))) ≡ soughtOf (best over (keep activePage (x ∷ xs)))
+unfolding keptOf keep
+kept-more x xs = go (activePage x)
+  where
+    go : (b : Bool) → cond b (betterOf over x (soughtOf (best over (keep activePage xs)))) (soughtOf (best over (keep activePage xs)))
+        ≡ soughtOf (best over (cond b (x ∷ keep activePage xs) (keep activePage xs)))
+    go true = best-more over x (keep activePage xs)
+    go false = refl
+
+module _ (x : Page) (xs : List Page) where
+  pub marks-active : activePage x ≡ true → fullMarks (x ∷ xs) ≡ markFull (x .sector) ∷ fullMarks xs
+  unfolding fullMarks keep
+  marks-active e = rw e
+
+  pub marks-other : activePage x ≡ false → fullMarks (x ∷ xs) ≡ fullMarks xs
+  unfolding fullMarks keep
+  marks-other e = rw e
+
+map-append : {A B : Type 0} (f : A → B) (a b : List A) → map f (a ++ b) ≡ map f a ++ map f b
+map-append f [] b = refl
+map-append {B = B} f (x ∷ a) b = ap {B = List B} (λ (r : List B). f x ∷ r) (map-append f a b)
+
+-- one page more is closed
+pub closed-more : (ys xs : List Page) (i : ℕ) (d : Page) → i < length ys → i < length xs → take i ys ≡ map closed (take i xs)
+    → take (i + 1) (set ys i (closed (getD xs i d))) ≡ map closed (take (i + 1) xs)
+closed-more ys xs i d hy hx e =
+    rw (add-one i) (
+    take-suc-set ys i (closed (getD xs i d)) hy
+    ∙ ap (λ (r : List Page). r ++ (closed (getD xs i d) ∷ [])) e
+    ∙ sym (ap (map closed) (take-suc xs i d hx) ∙ map-append closed (take i xs) (getD xs i d ∷ []))
+    )
+
+-- the stage, where a page is kept
+module _ (ps : List Page) (a : Page) (e : kept ps ≡ some a) where
+  pub kept-in : a ∈ ps
+  unfolding kept
+  kept-in = keep-in activePage ps a (best-in over (keep activePage ps) a e) .0
+
+  pub ordering-is : ordering ps ≡ fullMarks (others a ps) ++ keptMark a
+  unfolding ordering orderSteps fullMarks keptMark
+  ordering-is = rw e
+
+  pub ordered-is : ordered ps ≡ map closed (others a ps) ++ (cond (noEmpty a) (asFull a) a ∷ [])
+  unfolding ordered orderList
+  ordered-is = rw e

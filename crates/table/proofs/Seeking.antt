@@ -1,0 +1,73 @@
+-- Search in a page list, one page at a time: the first that passes, and the best from the end on. Assumes nothing.
+use mathlib.Core.Path.{_≡_, refl}
+use mathlib.Core.Bool.{Bool, true, false, cond}
+use mathlib.Core.Option.{Option, none, some}
+use mathlib.Core.List.{List, [], _∷_}
+use Prim.Native.Nat.{ℕ}
+use native.Mathlib.Omega.{arith}
+use Rattle.lists.specs.Lists.{firstOf, better, best}
+use Rattle.page.specs.declared.state.PageState.{PageState}
+use Rattle.page.specs.declared.state.PageState.the-variants.{Blank, Corrupt, Active, Full, Freeing}
+use Rattle.table.specs.declared.Page.{Page}
+use Rattle.table.specs.declared.Sought.{Sought}
+use Rattle.table.specs.declared.Sought.the-variants.{Found, Nothing}
+use Rattle.table.specs.Table.{active, freeing, activePage, freeingPage}
+use Rattle.table.specs.Sought.{soughtOf, betterOf, inState}
+
+module _ (p : Page → Bool) (x : Page) (xs : List Page) where
+  pub first-here : p x ≡ true → firstOf p (x ∷ xs) ≡ some x
+  unfolding firstOf
+  first-here e = rw e
+
+  pub first-on : p x ≡ false → firstOf p (x ∷ xs) ≡ firstOf p xs
+  unfolding firstOf
+  first-on e = rw e
+
+-- two tests that agree on each page find the same
+pub first-same : (p q : Page → Bool) → ((x : Page) → p x ≡ q x) → (xs : List Page) → firstOf p xs ≡ firstOf q xs
+unfolding firstOf
+first-same p q h [] = refl
+first-same p q h (x ∷ xs) = rw (h x, first-same p q h xs)
+
+pub active-is : (p : Page) → inState Active p ≡ activePage p
+active-is p = go (p .seen .state) refl
+  where
+    go : (s : PageState) → p .seen .state ≡ s → inState Active p ≡ activePage p
+    go Blank e = rw e
+    go Corrupt e = rw e
+    go Active e = rw e
+    go Full e = rw e
+    go Freeing e = rw e
+
+pub freeing-is : (p : Page) → inState Freeing p ≡ freeingPage p
+freeing-is p = go (p .seen .state) refl
+  where
+    go : (s : PageState) → p .seen .state ≡ s → inState Freeing p ≡ freeingPage p
+    go Blank e = rw e
+    go Corrupt e = rw e
+    go Active e = rw e
+    go Full e = rw e
+    go Freeing e = rw e
+
+-- what an answer says of what was sought
+pub sought-found : (o : Option Page) (p : Page) → Found p ≡ soughtOf o → o ≡ some p
+sought-found none p e = absurd (let z : _≡_ {A = ℕ} 0 1 = cc in omega arith)
+sought-found (some q) p e = cc
+
+pub sought-nothing : (o : Option Page) → Nothing ≡ soughtOf o → o ≡ none
+sought-nothing none e = refl
+sought-nothing (some q) e = absurd (let z : _≡_ {A = ℕ} 0 1 = cc in omega arith)
+
+module _ (over : Page → Page → Bool) where
+  either : (b : Bool) (x y : Page) → cond b (Found y) (Found x) ≡ soughtOf (some (cond b y x))
+  either true x y = refl
+  either false x y = refl
+
+  better-is : (x : Page) (o : Option Page) → betterOf over x (soughtOf o) ≡ soughtOf (some (better over x o))
+  unfolding better
+  better-is x none = refl
+  better-is x (some y) = either (over y x) x y
+
+  pub best-more : (x : Page) (xs : List Page) → betterOf over x (soughtOf (best over xs)) ≡ soughtOf (best over (x ∷ xs))
+  unfolding best
+  best-more x xs = better-is x (best over xs)
