@@ -1,92 +1,222 @@
-//! Times of the proved code, each beside a plain table CRC over the bytes that it has to read, in one run. A time is the least of many.
+//! Times of the proved code beside those of the crate it is a port of, on the same images, in turn, in one run.
+mod crc;
+mod images;
+
+use crc::{crc, entry_crc, header_crc};
+use images::{items, sector, settled_16, settled_4, settled_mixed, to_reclaim, SECTOR};
 use std::hint::black_box;
 use std::time::Instant;
 
 extern "C" {
     fn timing_walk(sector: *const u8, length: usize) -> usize;
     fn timing_reader(sector: *const u8, length: usize) -> usize;
+    fn timing_reclaim(image: *mut u8, length: usize, allowance: u64) -> u64;
 }
 
-/// The least time of many runs, in microseconds.
-fn least<R>(mut work: impl FnMut() -> R) -> f64 {
-    let (mut best, mut runs, begun) = (f64::MAX, 0, Instant::now());
-    while runs < 30 || begun.elapsed().as_millis() < 500 {
-        let start = Instant::now();
-        black_box(work());
-        best = best.min(start.elapsed().as_nanos() as f64 / 1000.0);
-        runs += 1;
+type Call = fn(&mut [u8]) -> u64;
+
+fn reclaim(image: &mut [u8]) -> u64 {
+    unsafe { timing_reclaim(image.as_mut_ptr(), image.len(), u64::MAX) }
+}
+
+#[cfg(with_crate)]
+mod of_crate {
+    use super::Call;
+
+    extern "C" {
+        fn crate_reclaim(image: *mut u8, length: usize) -> u64;
+        fn crate_recover(image: *mut u8, length: usize) -> u64;
+        fn crate_crc(bytes: *const u8, length: usize) -> u32;
     }
-    best
+
+    pub const RECLAIM: Option<Call> = Some(|image| unsafe { crate_reclaim(image.as_mut_ptr(), image.len()) });
+    pub const RECOVER: Option<Call> = Some(|image| unsafe { crate_recover(image.as_mut_ptr(), image.len()) });
+    pub const CRC: Option<fn(&[u8]) -> u32> = Some(|bytes| unsafe { crate_crc(bytes.as_ptr(), bytes.len()) });
 }
 
-const fn table() -> [u32; 256] {
-    let mut t = [0u32; 256];
-    let mut i = 0;
-    while i < 256 {
-        let (mut x, mut k) = (i as u32, 0);
-        while k < 8 {
-            x = (x >> 1) ^ if x & 1 == 1 { 0xEDB88320 } else { 0 };
-            k += 1;
+#[cfg(not(with_crate))]
+mod of_crate {
+    use super::Call;
+
+    pub const RECLAIM: Option<Call> = None;
+    pub const RECOVER: Option<Call> = None;
+    pub const CRC: Option<fn(&[u8]) -> u32> = None;
+}
+
+/// The times of one piece of work, in microseconds.
+#[derive(Default)]
+struct Times(Vec<f64>);
+
+impl Times {
+    fn take<R>(&mut self, work: impl FnOnce() -> R) -> R {
+        let begun = Instant::now();
+        let result = black_box(work());
+        self.0.push(begun.elapsed().as_nanos() as f64 / 1000.0);
+        result
+    }
+
+    fn sorted(&self) -> Vec<f64> {
+        let mut times = self.0.clone();
+        times.sort_by(f64::total_cmp);
+        times
+    }
+
+    /// None where nothing was timed.
+    fn median(&self) -> Option<f64> {
+        let sorted = self.sorted();
+        sorted.get(sorted.len() / 2).copied()
+    }
+
+    fn least(&self) -> Option<f64> {
+        self.sorted().first().copied()
+    }
+}
+
+/// Turns until the time is up: what runs beside others on a machine is timed in turn, so that each meets the same.
+fn turns(mut turn: impl FnMut()) {
+    let begun = Instant::now();
+    let mut made = 0;
+    while made < 101 || begun.elapsed().as_millis() < 1500 {
+        turn();
+        made += 1;
+    }
+}
+
+/// A line of the table.
+struct Line {
+    what: String,
+    limit: Times,
+    ours: Times,
+    theirs: Times,
+}
+
+fn cell(time: Option<f64>, width: usize) -> String {
+    time.map_or(format!("{:>width$}", "-"), |time| format!("{time:>width$.1}"))
+}
+
+fn ratio(one: Option<f64>, other: Option<f64>) -> String {
+    match (one, other) {
+        (Some(one), Some(other)) => format!("{:>7.2}", one / other),
+        _ => format!("{:>7}", "-"),
+    }
+}
+
+impl Line {
+    fn print(&self) {
+        let Line { what, limit, ours, theirs } = self;
+        println!(
+            "{what:<58}{}{}{}{}{}{}{}",
+            cell(limit.median(), 9),
+            cell(ours.median(), 9),
+            cell(ours.least(), 9),
+            cell(theirs.median(), 9),
+            cell(theirs.least(), 9),
+            ratio(ours.median(), theirs.median()),
+            ratio(ours.median(), limit.median()),
+        );
+    }
+}
+
+/// Times a call of ours, if it is there, and the crate's, if it is there, each on a fresh copy of the image. Both have to
+/// make the same image by the same number of steps. `limit` is the CRC of the bytes that the rules make one read.
+fn time_calls(what: &str, image: &[u8], limit: impl Fn() -> u32, ours: Option<Call>, theirs: Option<Call>) {
+    let mut line =
+        Line { what: what.into(), limit: Times::default(), ours: Times::default(), theirs: Times::default() };
+    let mut made = Vec::new();
+    turns(|| {
+        line.limit.take(&limit);
+        made.clear();
+        for (call, times) in [(ours, &mut line.ours), (theirs, &mut line.theirs)] {
+            if let Some(call) = call {
+                let mut copy = image.to_vec();
+                let steps = times.take(|| call(&mut copy));
+                made.push((steps, copy));
+            }
         }
-        t[i] = x;
-        i += 1;
-    }
-    t
+    });
+    assert!(made.windows(2).all(|pair| pair[0] == pair[1]), "{what}: two answers");
+    line.print();
 }
 
-static TABLE: [u32; 256] = table();
-
-/// The plain table CRC: a byte a turn.
-fn run(mut register: u32, bytes: &[u8]) -> u32 {
-    for b in bytes {
-        register = (register >> 8) ^ TABLE[((register ^ *b as u32) & 255) as usize];
-    }
-    register
+fn headers_of(image: &[u8]) -> u32 {
+    image.chunks(SECTOR).map(header_crc).fold(0, |x, y| x ^ y)
 }
 
-fn entry_crc(entry: &[u8]) -> u32 {
-    !run(run(0, &entry[..4]), &entry[8..32])
+fn entries_of(sectors: &[u8]) -> u32 {
+    sectors.chunks(SECTOR).flat_map(items).map(entry_crc).fold(0, |x, y| x ^ y)
 }
 
-/// A Full page of 126 one-entry items.
-fn sector(number: u32) -> Vec<u8> {
-    let mut s = vec![0xFFu8; 4096];
-    s[..4].copy_from_slice(&0xFFFF_FFFCu32.to_le_bytes());
-    s[4..8].copy_from_slice(&number.to_le_bytes());
-    s[8] = 0xFE;
-    let crc = !run(0, &s[4..28]);
-    s[28..32].copy_from_slice(&crc.to_le_bytes());
-    s[32..63].fill(0xAA);
-    s[63] = 0xFA;
-    for i in 0..126usize {
-        let at = 64 + 32 * i;
-        let key = format!("q{:08}", number as usize * 126 + i);
-        s[at..at + 32].fill(0);
-        s[at..at + 4].copy_from_slice(&[1, 0x08, 1, 0xFF]);
-        s[at + 8..at + 8 + key.len()].copy_from_slice(key.as_bytes());
-        s[at + 24..at + 32].copy_from_slice(&(i as u64 * 977).to_le_bytes());
-        let crc = entry_crc(&s[at..at + 32]);
-        s[at + 4..at + 8].copy_from_slice(&crc.to_le_bytes());
+fn time_reclaims() {
+    for (what, full_pages) in
+        [("reclaim: 16 sectors, 1,864 items, 100 copied", 14), ("reclaim: 2 sectors, 100 items", 0)]
+    {
+        let image = to_reclaim(full_pages);
+        let source = &image[image.len() - 2 * SECTOR..image.len() - SECTOR];
+        let limit = || headers_of(&image) ^ entries_of(source);
+        time_calls(what, &image, limit, Some(reclaim), of_crate::RECLAIM);
     }
-    s
+}
+
+/// The proved recovery joins here once its call stands.
+fn time_recoveries() {
+    for (what, image) in [
+        ("recovery: clean, 16 sectors, 1,900 items", settled_16()),
+        ("recovery: clean, 4 sectors, 378 items", settled_4()),
+        ("recovery: clean, 16 sectors, mixed", settled_mixed()),
+    ] {
+        let limit = || headers_of(&image) ^ entries_of(&image);
+        time_calls(what, &image, limit, None, of_crate::RECOVER);
+    }
+}
+
+fn time_readings() {
+    let sectors: Vec<u8> = (1..17).flat_map(sector).collect();
+    for (what, call) in [
+        ("walk: 16 whole sectors, 2,016 items", timing_walk as unsafe extern "C" fn(*const u8, usize) -> usize),
+        ("item reader, one item a call: the same", timing_reader),
+    ] {
+        let all = || sectors.chunks(SECTOR).map(|s| unsafe { call(s.as_ptr(), s.len()) }).sum::<usize>();
+        assert_eq!(all(), 2016);
+        let mut line =
+            Line { what: what.into(), limit: Times::default(), ours: Times::default(), theirs: Times::default() };
+        turns(|| {
+            line.limit.take(|| entries_of(&sectors));
+            line.ours.take(all);
+        });
+        line.print();
+    }
+}
+
+/// Which CRC the crate ran with, and what it costs beside the table.
+fn name_crc() {
+    let Some(given) = of_crate::CRC else {
+        println!("no SEEDS given: the crate's times are left out");
+        return;
+    };
+    let bytes = vec![0x5Au8; 65536];
+    assert_eq!(given(&bytes), crc(&bytes));
+    let (mut table, mut theirs) = (Times::default(), Times::default());
+    turns(|| {
+        table.take(|| crc(&bytes));
+        theirs.take(|| given(&bytes));
+    });
+    let times = (table.median().unwrap_or(0.0), theirs.median().unwrap_or(0.0));
+    println!(
+        "the crate runs with its own software_crc32, built for release: 65,536 bytes in {:.1} us, the table's {:.1} us",
+        times.1, times.0
+    );
 }
 
 fn main() {
-    let sectors: Vec<Vec<u8>> = (1..17).map(sector).collect();
-    let crcs = || sectors.iter().map(|s| (0..126).fold(0, |x, i| x ^ entry_crc(&s[64 + 32 * i..96 + 32 * i]))).fold(0, |x, y| x ^ y);
-    let all = |call: unsafe extern "C" fn(*const u8, usize) -> usize| {
-        sectors.iter().map(|s| unsafe { call(s.as_ptr(), s.len()) }).sum::<usize>()
-    };
-    assert_eq!(all(timing_walk), 2016);
-    assert_eq!(all(timing_reader), 2016);
-    let plain = least(crcs);
-    println!("16 sectors of 126 one-entry items");
-    println!("{:<56} {plain:>8.1} us", "plain table CRC over the items' bytes, in Rust");
-    for (what, call) in [
-        ("walk of each whole sector", timing_walk as unsafe extern "C" fn(*const u8, usize) -> usize),
-        ("the item reader, one item a call", timing_reader),
-    ] {
-        let time = least(|| all(call));
-        println!("{what:<56} {time:>8.1} us  {:.2} of it", time / plain);
-    }
+    println!(
+        "microseconds; limit: a plain table CRC over the page headers and item headers that the rules make one read"
+    );
+    println!(
+        "{:<58}{:>9}{:>9}{:>9}{:>9}{:>9}{:>7}{:>7}",
+        "", "limit", "ours", "least", "crate", "least", "ratio", "limits"
+    );
+    time_reclaims();
+    time_recoveries();
+    time_readings();
+    name_crc();
 }

@@ -24,7 +24,8 @@ struct Tally {
     ordered: u64,
 }
 
-fn agree(outcome: &Outcome, of_crate: &CrateOutcome) -> bool {
+/// Result, number of steps and image.
+pub fn agree(outcome: &Outcome, of_crate: &CrateOutcome) -> bool {
     (outcome.result, outcome.steps) == (of_crate.end.number(), of_crate.steps.len())
         && outcome.image == of_crate.image
 }

@@ -19,7 +19,7 @@ const NUMBERS: [u8; 8] = [0x01, 0x02, 0x04, 0x08, 0x11, 0x12, 0x14, 0x18];
 type Piece = (Fields, Vec<u8>);
 
 fn draw_key(random: &mut Random) -> Key {
-    key_of(["a", "b", "c", "quarter", "hour", "tariff", "k0", "k1"][random.below(8)])
+    key_of(random.choose(&["a", "a\0b", "b", "c", "quarter", "hour", "tariff", "k0"]))
 }
 
 fn draw_payload(random: &mut Random, most: usize) -> Vec<u8> {
@@ -57,33 +57,48 @@ fn draw_plain(random: &mut Random) -> Piece {
     }
 }
 
-/// A blob of one start: chunks and an index, sound or with one thing wrong.
-fn draw_blob(random: &mut Random) -> Vec<Piece> {
-    let (namespace, key) = (1 + random.below(2) as u8, draw_key(random));
-    let start = random.choose(&[0, 0x80]);
-    let chunks = 1 + random.below(3);
-    let mut pieces = Vec::new();
+/// The chunks of a version and the sum of their sizes. A size is now and then greater than the payload: nobody asks.
+fn draw_chunks(random: &mut Random, named: Fields, start: u8, count: usize) -> (Vec<Piece>, u32) {
     let mut size = 0;
-    for chunk in 0..chunks {
+    let mut chunks = Vec::new();
+    for chunk in 0..count as u8 {
         let payload = draw_payload(random, 100);
-        size += payload.len() as u32;
-        let header = with_payload(CHUNK, "", &payload);
-        pieces.push((Fields { namespace, key, chunk_index: start + chunk as u8, ..header }, payload));
+        let Fields { span, mut data, .. } = with_payload(CHUNK, "", &payload);
+        if random.once_in(16) {
+            data[1] = random.byte();
+        }
+        size += u32::from(u16::from_le_bytes([data[0], data[1]]));
+        chunks.push((Fields { kind: CHUNK, span, data, chunk_index: start + chunk, ..named }, payload));
     }
-    let mut count = chunks as u8;
-    match random.below(8) {
-        0 => count += 1,
+    (chunks, size)
+}
+
+/// A blob of one start: chunks and an index, sound or with one thing wrong.
+fn draw_version(random: &mut Random, named: Fields, start: u8) -> Vec<Piece> {
+    let count = random.below(4);
+    let (mut pieces, mut size) = draw_chunks(random, named, start, count);
+    let mut told = count as u8;
+    match random.below(10) {
+        0 => told += 1,
         1 => size += 1,
+        2 => size += 0x1_0000,
         _ => {}
     }
-    let index = Fields { namespace, ..fields(INDEX, key, index_data(size, count, start)) };
-    pieces.push((index, Vec::new()));
+    pieces.push((Fields { kind: INDEX, data: index_data(size, told, start), ..named }, Vec::new()));
     match random.below(8) {
-        0 => pieces.truncate(chunks),
+        0 => pieces.truncate(count),
         1 => drop(pieces.remove(0)),
         _ => {}
     }
     pieces
+}
+
+/// One or both versions of a blob.
+fn draw_blob(random: &mut Random) -> Vec<Piece> {
+    let named =
+        Fields { namespace: 1 + random.below(2) as u8, ..fields(INDEX, draw_key(random), value(0)) };
+    let starts: &[u8] = random.choose(&[&[0], &[0x80], &[0, 0x80], &[0x80, 0]]);
+    starts.iter().flat_map(|start| draw_version(random, named, *start)).collect()
 }
 
 /// Lays a piece on the page if it fits, now and then beside Erased entries.
@@ -133,18 +148,15 @@ fn draw_free(random: &mut Random) -> Page {
     }
 }
 
-/// How a page ends: with Empty entries, or Erased to its last one.
+/// How a page ends: with Empty entries, Erased or Illegal ones, or items up to its last entry.
 fn draw_end(random: &mut Random, page: Page) -> Page {
-    match random.below(6) {
-        0 => {
-            let left = ENTRIES - page.next;
-            page.erased(left)
-        }
-        1 => {
-            let (begin, some) = (page.next, random.below(ENTRIES - page.next + 1));
-            let illegal = if random.once_in(8) { EntryState::Illegal } else { EntryState::Erased };
-            page.states(begin, some, illegal).skip(some)
-        }
+    let (begin, left) = (page.next, ENTRIES - page.next);
+    match random.below(8) {
+        0 => page.erased(left),
+        1 => page.erased(random.below(left + 1)),
+        2 => page.states(begin, random.below(left + 1), EntryState::Illegal),
+        3 => page.numbers_to(ENTRIES, &format!("end{}", random.below(99))),
+        4 => page.numbers_to(ENTRIES - 1, &format!("end{}", random.below(99))).erased(left.min(1)),
         _ => page,
     }
 }
@@ -156,14 +168,11 @@ fn draw_state_word(random: &mut Random, operation: Operation) -> u32 {
     }
 }
 
-/// Different sequences; now and then equal ones, or at the end of the numbers.
+/// Different sequences, near each other or not; now and then equal ones.
 fn draw_sequences(random: &mut Random, pages: usize) -> Vec<u32> {
-    let base = random.choose(&[0, 1, 7, 100, 0x1234_5678, 0xFFFF_FFE0]);
-    let gap = 1 + random.below(9) as u32;
-    let mut sequences: Vec<u32> = (0..pages as u32).map(|page| base + page * gap.min(2)).collect();
-    if base < 1000 {
-        sequences = (0..pages as u32).map(|page| base + page * gap).collect();
-    }
+    let base = random.choose(&[0, 1, 7, 0x1234_5678, u32::MAX - 20, u32::MAX - pages as u32]);
+    let gap = if base < u32::MAX / 2 { 1 + random.below(30) as u32 } else { 1 };
+    let mut sequences: Vec<u32> = (0..pages as u32).map(|page| base + page * gap).collect();
     random.shuffle(&mut sequences);
     if random.once_in(20) {
         sequences.iter_mut().for_each(|sequence| *sequence /= 2);

@@ -2,6 +2,7 @@
 
 use std::slice;
 
+use esp_nvs::platform::software_crc32;
 use esp_nvs::Nvs;
 use model::sector::SECTOR_BYTES;
 
@@ -34,4 +35,13 @@ pub unsafe extern "C" fn crate_recover(image: *mut u8, length: usize) -> u64 {
     counted(slice::from_raw_parts_mut(image, length), |nvs| {
         nvs.run_recovery().expect("flash that does not fail")
     })
+}
+
+/// The CRC that the crate runs with here: its own, as given.
+///
+/// # Safety
+/// `bytes` points to `length` bytes.
+#[no_mangle]
+pub unsafe extern "C" fn crate_crc(bytes: *const u8, length: usize) -> u32 {
+    software_crc32(u32::MAX, slice::from_raw_parts(bytes, length))
 }
