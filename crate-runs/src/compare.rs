@@ -58,21 +58,39 @@ fn answers_of(program: &[&str], input: Vec<u8>) -> io::Result<Vec<u8>> {
     Ok(output)
 }
 
-/// The first of the cases on which the program's answer is not the crate's.
-fn first_unlike(program: &[&str], cases: &[Case]) -> io::Result<Option<usize>> {
-    let mut input = Vec::new();
-    cases.iter().for_each(|case| case.encode(&mut input));
-    let answers = answers_of(program, input)?;
-    let mut rest = &answers[..];
+/// The first of the cases whose given answer is not the crate's. Answers left over stand at the end.
+fn first_unlike(cases: &[Case], mut given: &[u8]) -> Option<usize> {
     for (place, case) in cases.iter().enumerate() {
         let of_crate = run(case.operation, &case.image, case.allowance, false);
         let wanted = (of_crate.end.number(), of_crate.steps.len() as u64, &of_crate.image[..]);
-        match take_answer(rest) {
-            Some((given, left)) if given == wanted => rest = left,
-            _ => return Ok(Some(place)),
+        match take_answer(given) {
+            Some((answer, rest)) if answer == wanted => given = rest,
+            _ => return Some(place),
         }
     }
-    Ok((!rest.is_empty()).then_some(cases.len()))
+    (!given.is_empty()).then_some(cases.len())
+}
+
+/// Recorded answers. The answer: whether the crate gives them all.
+pub fn check(cases: &[Case], given: &[u8]) -> bool {
+    let unlike = first_unlike(cases, given);
+    match unlike {
+        Some(place) => println!("case {place} of {} differs", cases.len()),
+        None => {
+            println!("{0} of {0} recorded answers are the crate's in result, steps and image", cases.len())
+        }
+    }
+    unlike.is_none()
+}
+
+/// The first of the cases that the program answers otherwise than the crate.
+fn first_unlike_of(program: &[&str], cases: &[Case]) -> io::Result<Option<usize>> {
+    if program.is_empty() {
+        return Ok(None);
+    }
+    let mut input = Vec::new();
+    cases.iter().for_each(|case| case.encode(&mut input));
+    Ok(first_unlike(cases, &answers_of(program, input)?))
 }
 
 fn count(tally: &mut Tally, case: &Case, outcome: &Outcome) {
@@ -108,8 +126,7 @@ pub fn compare(operation: Operation, total: u64, seed: u64, program: &[&str]) ->
             count(&mut tally, case, outcome);
         }
         let cases: Vec<Case> = drawn.into_iter().map(|(case, _)| case).collect();
-        let unlike = if program.is_empty() { None } else { first_unlike(program, &cases)? };
-        if let Some(place) = unlike {
+        if let Some(place) = first_unlike_of(program, &cases)? {
             println!("the program answers otherwise than the crate");
             report(seed, first + place as u64, &cases[place.min(cases.len() - 1)])?;
             return Ok(false);

@@ -1,11 +1,12 @@
 //! The crate's side of each comparison. README.md says how each command is used.
 
 use std::error::Error;
+use std::fs::{self, File};
 use std::io::{self, Read, Write};
 use std::process::ExitCode;
 
 use crate_runs::class::in_class;
-use crate_runs::compare::compare;
+use crate_runs::compare::{check, compare};
 use crate_runs::crate_call::run;
 use crate_runs::{differences, draw, record, stories};
 use model::protocol::{Case, Operation};
@@ -14,6 +15,7 @@ const USAGE: &str = "crate-runs answer < cases > answers
 crate-runs select < cases > cases of the class
 crate-runs draw 0|1 COUNT SEED > cases of the class
 crate-runs compare 0|1 COUNT SEED [PROGRAM ARGUMENT..]
+crate-runs check CASES ANSWERS
 crate-runs cases [NAME..]
 crate-runs stories
 crate-runs record FOLDER SEED";
@@ -26,9 +28,9 @@ fn operation_of(number: &str) -> Result<Operation, Box<dyn Error>> {
     }
 }
 
-fn read_cases() -> io::Result<Vec<Case>> {
+fn read_cases(mut from: impl Read) -> io::Result<Vec<Case>> {
     let mut input = Vec::new();
-    io::stdin().lock().read_to_end(&mut input)?;
+    from.read_to_end(&mut input)?;
     let (mut rest, mut cases) = (&input[..], Vec::new());
     while let Some(case) = Case::decode(&mut rest)? {
         cases.push(case);
@@ -63,7 +65,7 @@ fn answer(case: &Case) -> Vec<u8> {
 
 fn answer_all() -> io::Result<()> {
     let mut stdout = io::stdout().lock();
-    for case in read_cases()? {
+    for case in read_cases(io::stdin())? {
         stdout.write_all(&answer(&case))?;
     }
     stdout.flush()
@@ -74,7 +76,9 @@ fn command(words: &[String]) -> Result<bool, Box<dyn Error>> {
     let words_of: Vec<&str> = words.iter().map(String::as_str).collect();
     match words_of[..] {
         ["answer"] => answer_all()?,
-        ["select"] => write_cases(read_cases()?.into_iter().filter(|case| in_class(case).is_ok()))?,
+        ["select"] => {
+            write_cases(read_cases(io::stdin())?.into_iter().filter(|case| in_class(case).is_ok()))?
+        }
         ["draw", operation, count, seed] => {
             let (operation, count, seed) = (operation_of(operation)?, count.parse()?, seed.parse()?);
             write_cases((0..count).map(|number| draw::case_of(operation, seed, number).0))?;
@@ -82,6 +86,9 @@ fn command(words: &[String]) -> Result<bool, Box<dyn Error>> {
         ["compare", operation, count, seed, ref program @ ..] => {
             let (count, seed) = (count.parse()?, seed.parse()?);
             return Ok(compare(operation_of(operation)?, count, seed, program)?);
+        }
+        ["check", cases, answers] => {
+            return Ok(check(&read_cases(File::open(cases)?)?, &fs::read(answers)?));
         }
         ["cases", ..] => differences::print(&words[1..]),
         ["stories"] => stories::print(),
