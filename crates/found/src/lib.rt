@@ -1,1 +1,20 @@
-// The items of the listed pages.
+// The items of the listed pages, each known by its place: the number of its first block of 32 bytes in the image.
+mod items;
+mod places;
+mod ranks;
+
+pub use items::erase_at;
+pub use items::group_at;
+pub use items::is_chunk;
+pub use items::is_index;
+pub use items::is_newer;
+pub use items::is_part;
+pub use items::span_at;
+pub use items::version_at;
+pub use places::gather;
+pub use places::place_at;
+pub use ranks::Next;
+pub use ranks::Pass;
+pub use ranks::Rank;
+pub use ranks::next_rank;
+pub use ranks::rank_same;

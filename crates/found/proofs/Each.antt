@@ -1,0 +1,24 @@
+-- What holds of each member of a list holds at each index, and of lists put together. Assumes nothing.
+use mathlib.Core.List.{List, [], _∷_, _++_}
+use Prim.Native.Nat.{ℕ, zero, suc, _<_, _≤_}
+use native.Mathlib.Omega.{arith}
+use lib.ListN.{length, getD, take}
+use lib.Seq.{getD-take, length-take-le}
+use Rattle.found.specs.Places.{Each}
+
+module _ {A : Type 0} (P : A → Type 0) where
+  pub each-at : (xs : List A) (d : A) → Each P xs → (i : ℕ) → i < length xs → P (getD xs i d)
+  unfolding Each
+  each-at [] d h i k = absurd (omega arith)
+  each-at (x ∷ xs) d h zero k = h .0
+  each-at (x ∷ xs) d h (suc i) k = each-at xs d (h .1) i (omega arith)
+
+  pub each-append : (xs ys : List A) → Each P xs → Each P ys → Each P (xs ++ ys)
+  unfolding Each
+  each-append [] ys p q = q
+  each-append (x ∷ xs) ys p q = (p .0, each-append xs ys (p .1) q)
+
+  -- the front of an array
+  pub each-front : (xs : List A) (k : ℕ) (d : A) → k ≤ length xs → Each P (take k xs) → (i : ℕ) → i < k → P (getD xs i d)
+  each-front xs k d room h i g =
+      rw (getD-take k xs i d g) at (each-at (take k xs) d h i (rw (length-take-le k xs room) g))

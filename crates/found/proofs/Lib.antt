@@ -1,0 +1,5 @@
+pub mod Each
+pub mod Reading
+pub mod Alike
+pub mod Finding
+pub mod Ranking

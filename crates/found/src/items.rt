@@ -1,0 +1,148 @@
+// What stands at a place.
+use super::ranks::Rank;
+use entry::Kind;
+use flash::Ran;
+ghost use mathlib.Core.Path.{_≡_};
+ghost use mathlib.Core.Bool.{_||_};
+ghost use Prim.Native.Nat.{_+_, _%_, _≤_, _<_};
+ghost use lib.ListN.{length};
+ghost use Rattle.entry.specs.Fields.{namespaceOf, spanOf, kindIn};
+ghost use Rattle.flash.specs.Did.{Did};
+ghost use Rattle.item.specs.Erase.{erasing};
+ghost use Rattle.found.specs.Found.{newer, chunkKind, indexKind, isChunk, isIndex, isPart, startIn, versionOf, groupOf};
+ghost use Rattle.found.specs.Places.{itemAt, Placed, Alike};
+ghost use Rattle.found.specs.Ranks.{rankNumber};
+
+fn chunk_kind(kind: Kind) -> bool
+    ensures { λ r. ⌜ r ≡ chunkKind kind ⌝ }
+{
+    match kind {
+        Kind::Unsigned(_) => false,
+        Kind::Signed(_) => false,
+        Kind::Text => false,
+        Kind::Blob => false,
+        Kind::Chunk => true,
+        Kind::Index => false,
+        Kind::Unknown => false,
+    }
+}
+
+fn index_kind(kind: Kind) -> bool
+    ensures { λ r. ⌜ r ≡ indexKind kind ⌝ }
+{
+    match kind {
+        Kind::Unsigned(_) => false,
+        Kind::Signed(_) => false,
+        Kind::Text => false,
+        Kind::Blob => false,
+        Kind::Chunk => false,
+        Kind::Index => true,
+        Kind::Unknown => false,
+    }
+}
+
+fn kind_at(image: &[u8], place: usize) -> Kind
+    requires { ⌜ Placed (now image) place ⌝ }
+    ensures { λ r. ⌜ r ≡ kindIn (itemAt (now (image .entry)) place .raw) ⌝ }
+{
+    entry::kind_of(image[place * 32 + 1])
+}
+
+pub fn is_chunk(image: &[u8], place: usize) -> bool
+    requires { ⌜ Placed (now image) place ⌝ }
+    ensures { λ r. ⌜ r ≡ isChunk (itemAt (now (image .entry)) place .raw) ⌝ }
+{
+    chunk_kind(kind_at(image, place))
+}
+
+pub fn is_index(image: &[u8], place: usize) -> bool
+    requires { ⌜ Placed (now image) place ⌝ }
+    ensures { λ r. ⌜ r ≡ isIndex (itemAt (now (image .entry)) place .raw) ⌝ }
+{
+    index_kind(kind_at(image, place))
+}
+
+// A chunk or a blob index.
+pub fn is_part(image: &[u8], place: usize) -> bool
+    requires { ⌜ Placed (now image) place ⌝ }
+    ensures { λ r. ⌜ r ≡ isPart (itemAt (now (image .entry)) place .raw) ⌝ }
+{
+    if is_chunk(image, place) {
+        return true;
+    }
+    is_index(image, place)
+}
+
+pub fn namespace_at(image: &[u8], place: usize) -> u8
+    requires { ⌜ Placed (now image) place ⌝ }
+    ensures { λ r. ⌜ r ≡ namespaceOf (itemAt (now (image .entry)) place .raw) ⌝ }
+{
+    image[place * 32]
+}
+
+pub fn span_at(image: &[u8], place: usize) -> usize
+    requires { ⌜ Placed (now image) place ⌝ }
+    ensures { λ r. ⌜ (r ≡ spanOf (itemAt (now (image .entry)) place .raw)) × (1 ≤ r) × (place % 128 + r ≤ 128) ⌝ }
+{
+    word::size(image[place * 32 + 2])
+}
+
+fn start_at(image: &[u8], place: usize) -> u8
+    requires { ⌜ Placed (now image) place ⌝ }
+    ensures { λ r. ⌜ r ≡ startIn (itemAt (now (image .entry)) place .raw) ⌝ }
+{
+    if is_chunk(image, place) {
+        return entry::start(image[place * 32 + 3]);
+    }
+    entry::start(image[place * 32 + 29])
+}
+
+// The version that a chunk or a blob index is of.
+pub fn version_at(image: &[u8], place: usize) -> Rank
+    requires { ⌜ Placed (now image) place ⌝ }
+    ensures { λ r. ⌜ rankNumber r ≡ versionOf (itemAt (now (image .entry)) place .raw) ⌝ }
+{
+    Rank {
+        high: word::wide(namespace_at(image, place)) * 256 + word::wide(start_at(image, place)),
+        key: entry::key_at(image, place * 32),
+    }
+}
+
+pub fn group_at(image: &[u8], place: usize) -> Rank
+    requires { ⌜ Placed (now image) place ⌝ }
+    ensures { λ r. ⌜ rankNumber r ≡ groupOf (itemAt (now (image .entry)) place .raw) ⌝ }
+{
+    Rank {
+        high: word::wide(namespace_at(image, place)),
+        key: entry::key_at(image, place * 32),
+    }
+}
+
+fn sequence_at(image: &[u8], place: usize) -> u32
+    requires { ⌜ Placed (now image) place ⌝ }
+    ensures { λ r. ⌜ r ≡ itemAt (now (image .entry)) place .sequence ⌝ }
+{
+    word::le32(image, place / 128 * 4096 + 4)
+}
+
+// Whether the item at `later`, which stands later in the list, is newer than the one at `place`.
+pub fn is_newer(image: &[u8], later: usize, place: usize) -> bool
+    requires { ⌜ Placed (now image) later × Placed (now image) place ⌝ }
+    ensures { λ r. ⌜ r ≡ newer (itemAt (now (image .entry)) later) (itemAt (now (image .entry)) place) ⌝ }
+{
+    let after = sequence_at(image, later);
+    let before = sequence_at(image, place);
+    if after == before {
+        place % 128 <= later % 128
+    } else {
+        before < after
+    }
+}
+
+// Erases `n` entries from the item's first on.
+pub fn erase_at(image: &mut [u8], place: usize, n: usize, allowed: u64) -> Ran
+    requires { ⌜ Placed (now image) place × (1 ≤ n) × (place % 128 + n ≤ 128) ⌝ }
+    ensures { λ r. ⌜ Did (erasing (itemAt (now (image .entry)) place .sector) (itemAt (now (image .entry)) place .entry) n) allowed (now (image .entry)) (now (image .exit)) r × Alike (now (image .entry)) (now (image .exit)) ⌝ }
+{
+    item::erase_item(image, place / 128, place % 128 - 2, n, allowed)
+}

@@ -1,0 +1,36 @@
+// Places gathered once, so that a stage walks the image once.
+use table::Table;
+ghost use mathlib.Core.Path.{_≡_};
+ghost use mathlib.Core.List.{map};
+ghost use Prim.Native.Nat.{_≤_, _<_};
+ghost use lib.ListN.{length, take, getD};
+ghost use Rattle.crc.specs.Table.{crcTable};
+ghost use Rattle.table.specs.Table.{listed, Sized};
+ghost use Rattle.found.specs.Found.{found};
+ghost use Rattle.found.specs.Places.{placeOf, Each, Lies};
+
+// The places of all items found, in list order, then entry order, into `out`. Answers how many.
+pub fn gather(t: &[u32; 324], image: &[u8], table: Table, out: &mut [u16]) -> usize
+    requires { ⌜ (now t ≡ crcTable) × Sized table × Each (Lies (now image)) (listed table) × (2016 ≤ length (now out)) ⌝ }
+    ensures { λ r. ⌜ (take r (now (out .exit)) ≡ map placeOf (found (listed table) (now (image .entry)))) × (r ≤ 2016) ⌝ }
+{
+    let count = table.count;
+    let mut k: usize = 0;
+    let mut i: usize = 0;
+    while i < count {
+        let p = table.pages[i];
+        let sector = p.sector;
+        let a = sector * 4096;
+        let e = a + 4096;
+        k = page::places(t, &image[a..e], sector * 128 + 2, out, k);
+        i += 1;
+    }
+    k
+}
+
+pub fn place_at(places: &[u16], i: usize) -> usize
+    requires { ⌜ i < length (now places) ⌝ }
+    ensures { λ r. ⌜ r ≡ getD (now (places .entry)) i 0 ⌝ }
+{
+    places[i] as usize
+}
