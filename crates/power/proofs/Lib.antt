@@ -31,3 +31,4 @@ pub mod Accepted
 pub mod AllErased
 pub mod Reclaiming
 pub mod Demand3
+pub mod Cuts
