@@ -8,3 +8,4 @@ pub mod Every
 pub mod Frame
 pub mod Lent
 pub mod Words
+pub mod Sectors

@@ -2,9 +2,8 @@
 use mathlib.Core.Path.{_≡_}
 use mathlib.Core.Bool.{Bool, true, false, cond}
 use mathlib.Core.List.{List, [], _∷_}
-use Prim.Native.Nat.{ℕ, _+_, _-_, _*_}
+use Prim.Native.Nat.{ℕ, _+_, _*_}
 use native.Mathlib.Omega.{arith}
-use Rattle.word.specs.Number.{part}
 use Rattle.page.specs.State.{allOnes}
 use Rattle.flash.specs.Step.{erase, sector}
 use Rattle.flash.proofs.Every.{Every}
@@ -12,13 +11,6 @@ use Rattle.flash.proofs.Frame.{AllIn}
 use Rattle.item.specs.Initialise.{clearing}
 
 module _ (s : ℕ) (l : List ℕ) where
-  -- what a callee saw that was lent the sector
-  pub lent-sector : part l (s * 4096) (s * 4096 + 4096 - s * 4096) ≡ sector s l
-  unfolding sector
-  lent-sector =
-      let n : s * 4096 + 4096 - s * 4096 ≡ 4096 = omega arith in
-      rw n
-
   pub clearing-blank : allOnes (sector s l) ≡ true → clearing s l ≡ []
   unfolding clearing
   clearing-blank e = rw e

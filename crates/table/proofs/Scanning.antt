@@ -22,13 +22,6 @@ record-state t = go (isFree (stateOf t)) refl
     go false e = rw e
 
 module _ (l : List ℕ) (n : ℕ) where
-  -- a sector lent
-  pub lent : take (n * 4096 + 4096 - n * 4096) (drop (n * 4096) l) ≡ sector n l
-  unfolding sector
-  lent =
-      let e : n * 4096 + 4096 - n * 4096 ≡ 4096 = omega arith in
-      rw e
-
   pub pages-free : isFree (stateOf (sector n l)) ≡ true → pagesTo l (n + 1) ≡ pagesTo l n
   unfolding pagesTo
   pages-free e = rw (add-one, e) (append-nil (pagesTo l n))

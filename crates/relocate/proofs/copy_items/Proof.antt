@@ -13,7 +13,7 @@ use Rattle.flash.specs.Step.{sector}
 use Rattle.flash.specs.Did.{Goes}
 use Rattle.flash.proofs.Laws.{goes-start, goes-on, goes-stop, goes-end, goes-same}
 use Rattle.flash.proofs.Frame.{apart, did-sector}
-use Rattle.item.proofs.Clearing.{lent-sector}
+use Rattle.flash.proofs.Sectors.{lent-sector}
 use Rattle.item.proofs.Safe.{copying-in}
 use Rattle.relocate.specs.Move.{copies}
 use Rattle.relocate.proofs.Turns.{turn-span, turn-item, turn-skip, turn-end}

@@ -13,7 +13,8 @@ use Rattle.page.specs.declared.«record».PageRecord.{PageRecord}
 use Rattle.page.specs.State.{stateOf, isFree}
 use Rattle.page.specs.Record.{recordOf}
 use Rattle.table.specs.Table.{pagesTo, freesTo, pages, frees}
-use Rattle.table.proofs.Scanning.{record-state, lent, pages-free, pages-used, frees-free, frees-used}
+use Rattle.flash.proofs.Sectors.{lent-sector}
+use Rattle.table.proofs.Scanning.{record-state, pages-free, pages-used, frees-free, frees-used}
 use Rattle.table.proofs.scan.Statement.{statement}
 use Rattle.table.proofs.scan.Tie as tie
 
@@ -34,7 +35,7 @@ loop-again c =
     let image = l .before .before .before .args .image .now in
     let n = l .loop .n in
     let i = l .loop .inv in
-    let e : isFree (stateOf (sector n image)) ≡ true = ap isFree (sym (record-state (sector n image)) ∙ ap (λ (t : List ℕ). recordOf t .state) (sym (lent image n)) ∙ sym (ap (λ (r : PageRecord). r .state) (c .before .before .page-record .ensures))) ∙ sym (c .before .is-free .ensures) ∙ c .if1 .taken in
+    let e : isFree (stateOf (sector n image)) ≡ true = ap isFree (sym (record-state (sector n image)) ∙ ap (λ (t : List ℕ). recordOf t .state) (sym (lent-sector n image)) ∙ sym (ap (λ (r : PageRecord). r .state) (c .before .before .page-record .ensures))) ∙ sym (c .before .is-free .ensures) ∙ c .if1 .taken in
     let room : l .loop .free-count < length (l .loop .free) = omega arith in (
       i .0,
       simp length-set (i .1),
@@ -51,8 +52,8 @@ loop-again-2 c =
     let image = l .before .before .before .args .image .now in
     let n = l .loop .n in
     let i = l .loop .inv in
-    let e : isFree (stateOf (sector n image)) ≡ false = ap isFree (sym (record-state (sector n image)) ∙ ap (λ (t : List ℕ). recordOf t .state) (sym (lent image n)) ∙ sym (ap (λ (r : PageRecord). r .state) (c .before .before .page-record .ensures))) ∙ sym (c .before .is-free .ensures) ∙ c .if1 .left in
-    let seen : c .before .before .page-record .result ≡ recordOf (sector n image) = c .before .before .page-record .ensures ∙ ap recordOf (lent image n) in
+    let e : isFree (stateOf (sector n image)) ≡ false = ap isFree (sym (record-state (sector n image)) ∙ ap (λ (t : List ℕ). recordOf t .state) (sym (lent-sector n image)) ∙ sym (ap (λ (r : PageRecord). r .state) (c .before .before .page-record .ensures))) ∙ sym (c .before .is-free .ensures) ∙ c .if1 .left in
+    let seen : c .before .before .page-record .result ≡ recordOf (sector n image) = c .before .before .page-record .ensures ∙ ap recordOf (lent-sector n image) in
     let room : l .loop .count < length (l .loop .list) = omega arith in (
       simp length-set (i .0),
       i .1,

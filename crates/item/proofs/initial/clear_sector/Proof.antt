@@ -1,6 +1,7 @@
 -- `item::clear_sector` meets its contract: the lent part is the sector, and its test is the definition's. Assumes nothing.
 use Rattle.flash.proofs.Laws.{did-none}
-use Rattle.item.proofs.Clearing.{lent-sector, clearing-blank, clearing-used}
+use Rattle.flash.proofs.Sectors.{lent-sector}
+use Rattle.item.proofs.Clearing.{clearing-blank, clearing-used}
 use borrow.Author.Needs.{needs}
 use Rattle.item.proofs.initial.clear_sector.Statement.{statement}
 use Rattle.item.proofs.initial.clear_sector.Tie as tie

@@ -1,0 +1,3 @@
+pub mod Enter
+pub mod Lists
+pub mod Reading

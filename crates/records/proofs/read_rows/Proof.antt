@@ -1,0 +1,117 @@
+-- `records::read_rows` meets its contract: what is read so far is the records of the sectors passed. Assumes nothing.
+use mathlib.Core.Path.{_≡_, refl, sym, ap, _∙_, subst}
+use Prim.Native.Nat.{ℕ, _+_, _-_, _≤_, _<_}
+use native.Mathlib.Omega.{arith}
+use native.Mathlib.Numerals.{add-one}
+use borrow.Author.Needs.{needs}
+use lib.ListN.{length, take, length-set}
+use lib.Seq.{take-suc-set}
+use Rattle.flash.specs.Step.{sector}
+use Rattle.page.specs.Record.{recordOf}
+use Rattle.records.specs.Records.{recordsTo}
+use Rattle.records.proofs.Reading.{records-more}
+use Rattle.flash.proofs.Sectors.{lent-sector}
+use Rattle.records.proofs.read_rows.Statement.{statement}
+use Rattle.records.proofs.read_rows.Tie as tie
+use Rattle.records.proofs.read_rows.Reads as reads
+use Rattle.records.proofs.read_rows.Lts as lts
+use Rattle.page.proofs.page_record.Reads as page-record-reads
+use Rattle.records.proofs.blank_record.Reads as blank-record-reads
+
+abbrev Inv-loop : tie.InvT-loop
+Inv-loop t image sectors rows₀ n₀ rows n = (length rows ≡ 16) × (n ≤ sectors) × (take n rows ≡ recordsTo image n)
+
+abbrev μ-loop : tie.MeasureT-loop
+μ-loop t image sectors rows₀ n₀ rows n = sectors - n
+
+-- src/lib.rt:42:21
+blank-record-requires : tie.Need-blank-record-requires Inv-loop μ-loop
+blank-record-requires c κs = search needs
+
+-- src/lib.rt:44:5
+loop-holds : tie.Need-loop-holds Inv-loop μ-loop
+unfolding recordsTo
+loop-holds c = (search needs, search needs, refl)
+
+-- src/lib.rt:45:17
+mul-a : tie.Need-mul-a Inv-loop μ-loop
+mul-a c = search needs
+
+-- src/lib.rt:46:17
+add-e : tie.Need-add-e Inv-loop μ-loop
+add-e c = search needs
+
+-- src/lib.rt:47:40
+sub-page-record : tie.Need-sub-page-record Inv-loop μ-loop
+sub-page-record c = search needs
+
+-- src/lib.rt:47:40
+part-page-record-start : tie.Need-part-page-record-start Inv-loop μ-loop
+part-page-record-start c = search needs
+
+-- src/lib.rt:47:40
+part-page-record-end : tie.Need-part-page-record-end Inv-loop μ-loop
+part-page-record-end c = search needs
+
+-- src/lib.rt:47:19
+page-record-requires : tie.Need-page-record-requires Inv-loop μ-loop
+page-record-requires c κs = search needs
+
+-- src/lib.rt:47:9
+mul-rows : tie.Need-mul-rows Inv-loop μ-loop
+mul-rows c = search needs
+
+-- src/lib.rt:47:9
+array-set-from-rows : tie.Need-array-set-from-rows Inv-loop μ-loop
+array-set-from-rows c = search needs
+
+-- src/lib.rt:48:9
+add-n : tie.Need-add-n Inv-loop μ-loop
+add-n c = search needs
+
+-- src/lib.rt:44:5
+loop-less : tie.Need-loop-less Inv-loop μ-loop
+loop-less c = search needs
+
+-- src/lib.rt:44:5
+loop-again : tie.Need-loop-again Inv-loop μ-loop
+loop-again c =
+    let l = c .before .before .before in
+    let image = l .before .before .before .args .image .now in
+    let n = l .loop .n in
+    let i = l .loop .inv in
+    let room : n < length (l .loop .rows) = omega arith in
+    let seen : c .page-record .result ≡ recordOf (sector n image) = c .page-record .ensures ∙ ap recordOf (lent-sector n image) in (
+      simp length-set (i .0),
+      omega arith,
+      rw (add-one n) (take-suc-set (l .loop .rows) n _ room ∙ rw (i .2, seen) (sym (records-more image n) ∙ ap (recordsTo image) (add-one n))),
+    )
+
+-- src/lib.rt:38:1
+returns : tie.Need-returns Inv-loop μ-loop
+returns c =
+    let l = c .before in
+    let a = l .before .before .before .args in
+    let e : l .loop .n ≡ a .sectors = omega arith in
+    record { rows = subst (λ (k : ℕ). take k (l .loop .rows) ≡ recordsTo (a .image .now) k) e (l .loop .inv .2); count = refl }
+
+pub read-rows-spec : {M : Type 1} → statement M
+read-rows-spec =
+    tie.close
+    (tie.spec
+    Inv-loop
+    μ-loop
+    blank-record-requires
+    loop-holds
+    mul-a
+    add-e
+    sub-page-record
+    part-page-record-start
+    part-page-record-end
+    page-record-requires
+    mul-rows
+    array-set-from-rows
+    add-n
+    loop-less
+    loop-again
+    returns)

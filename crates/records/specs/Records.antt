@@ -1,0 +1,32 @@
+-- Document 01, Result numbers: "The page list goes into lent page records, one a sector, in sector order, after recovery's last step .. Records past the
+-- sectors stay unchanged." Assumes nothing.
+use mathlib.Core.Path.{_≡_}
+use mathlib.Core.List.{List, [], _∷_, _++_}
+use Prim.Native.Nat.{ℕ, zero, suc}
+use lib.ListN.{take, drop, replicate}
+use Rattle.flash.specs.Step.{sector}
+use Rattle.page.specs.declared.state.PageState.the-variants.{Blank}
+use Rattle.page.specs.declared.«record».PageRecord.{PageRecord}
+use Rattle.page.specs.Record.{recordOf, freeRecord}
+use Rattle.records.specs.declared.Rows.{Rows}
+
+-- the records of the first n sectors of the image l: "one a sector, in sector order"
+unfoldable pub recordsTo : List ℕ → ℕ → List PageRecord
+recordsTo l zero = []
+recordsTo l (suc n) = recordsTo l n ++ (recordOf (sector n l) ∷ [])
+
+-- the first n rows, and what stood from place n on: "Records past the sectors stay unchanged."
+abbrev pub filled : ℕ → List PageRecord → List PageRecord → List PageRecord
+filled n rows ys = take n rows ++ drop n ys
+
+-- what fills the places of an array that no row has
+abbrev pub blankRecord : PageRecord
+blankRecord = freeRecord Blank
+
+abbrev pub noRows : Rows
+noRows = record { rows = replicate 16 blankRecord; count = 0 }
+
+-- the rows of an image of n sectors
+pub record RowsOf (l : List ℕ) (n : ℕ) (r : Rows) : Type 0 where
+  pub rows : take n (r .rows) ≡ recordsTo l n
+  pub count : r .count ≡ n
