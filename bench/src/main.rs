@@ -83,8 +83,9 @@ fn turns(mut turn: impl FnMut()) {
 }
 
 /// A line of the table.
+#[derive(Default)]
 struct Line {
-    what: String,
+    what: &'static str,
     limit: Times,
     ours: Times,
     theirs: Times,
@@ -96,8 +97,8 @@ fn cell(time: Option<f64>, width: usize) -> String {
 
 fn ratio(one: Option<f64>, other: Option<f64>) -> String {
     match (one, other) {
-        (Some(one), Some(other)) => format!("{:>7.2}", one / other),
-        _ => format!("{:>7}", "-"),
+        (Some(one), Some(other)) => format!("{:>12.2}", one / other),
+        _ => format!("{:>12}", "-"),
     }
 }
 
@@ -105,7 +106,7 @@ impl Line {
     fn print(&self) {
         let Line { what, limit, ours, theirs } = self;
         println!(
-            "{what:<58}{}{}{}{}{}{}{}",
+            "{what:<46}{}{}{}{}{}{}{}",
             cell(limit.median(), 9),
             cell(ours.median(), 9),
             cell(ours.least(), 9),
@@ -119,9 +120,8 @@ impl Line {
 
 /// Times a call of ours, if it is there, and the crate's, if it is there, each on a fresh copy of the image. Both have to
 /// make the same image by the same number of steps. `limit` is the CRC of the bytes that the rules make one read.
-fn time_calls(what: &str, image: &[u8], limit: impl Fn() -> u32, ours: Option<Call>, theirs: Option<Call>) {
-    let mut line =
-        Line { what: what.into(), limit: Times::default(), ours: Times::default(), theirs: Times::default() };
+fn time_calls(what: &'static str, image: &[u8], limit: impl Fn() -> u32, ours: Option<Call>, theirs: Option<Call>) {
+    let mut line = Line { what, ..Line::default() };
     let mut made = Vec::new();
     turns(|| {
         line.limit.take(&limit);
@@ -177,8 +177,7 @@ fn time_readings() {
     ] {
         let all = || sectors.chunks(SECTOR).map(|s| unsafe { call(s.as_ptr(), s.len()) }).sum::<usize>();
         assert_eq!(all(), 2016);
-        let mut line =
-            Line { what: what.into(), limit: Times::default(), ours: Times::default(), theirs: Times::default() };
+        let mut line = Line { what, ..Line::default() };
         turns(|| {
             line.limit.take(|| entries_of(&sectors));
             line.ours.take(all);
@@ -212,8 +211,8 @@ fn main() {
         "microseconds; limit: a plain table CRC over the page headers and item headers that the rules make one read"
     );
     println!(
-        "{:<58}{:>9}{:>9}{:>9}{:>9}{:>9}{:>7}{:>7}",
-        "", "limit", "ours", "least", "crate", "least", "ratio", "limits"
+        "{:<46}{:>9}{:>9}{:>9}{:>9}{:>9}{:>12}{:>12}",
+        "", "limit", "ours", "least", "crate", "least", "ours/crate", "ours/limit"
     );
     time_reclaims();
     time_recoveries();

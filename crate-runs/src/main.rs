@@ -17,6 +17,7 @@ crate-runs draw 0|1 COUNT SEED > cases of the class
 crate-runs compare 0|1 COUNT SEED [PROGRAM ARGUMENT..]
 crate-runs check CASES ANSWERS
 crate-runs cases [NAME..]
+crate-runs image NAME > case
 crate-runs stories
 crate-runs record FOLDER SEED";
 
@@ -89,6 +90,10 @@ fn command(words: &[String]) -> Result<bool, Box<dyn Error>> {
         }
         ["check", cases, answers] => {
             return Ok(check(&read_cases(File::open(cases)?)?, &fs::read(answers)?));
+        }
+        ["image", name] => {
+            let named = differences::all().into_iter().filter(|named| named.name == name);
+            write_cases(named.map(|named| differences::case_of(&named)))?;
         }
         ["cases", ..] => differences::print(&words[1..]),
         ["stories"] => stories::print(),
