@@ -3,7 +3,7 @@
 use mathlib.Core.Bool.{Bool, cond, not, _&&_}
 use mathlib.Core.Option.{Option, none, some}
 use mathlib.Core.List.{List, map}
-use Prim.Native.Nat.{ℕ, suc, _+_, _*_, _^_}
+use Prim.Native.Nat.{ℕ, suc, _+_, _*_, _^_, _<_}
 use lib.Dec.{leb}
 use Rattle.entry.specs.Fields.{namespaceOf, keyNumber}
 use Rattle.lists.specs.Lists.{keep, lesser}
@@ -36,6 +36,16 @@ abbrev pub numberIn : Pass → List ℕ → ℕ
 numberIn Parts r = versionOf r
 numberIn Indices r = groupOf r
 numberIn Items r = groupOf r
+
+-- what stands in front of the key is a namespace and a start, or a namespace alone
+abbrev pub limit : Pass → ℕ
+limit Parts = 65536
+limit Indices = 256
+limit Items = 256
+
+abbrev pub Limited : ℕ → Next → Type 0
+Limited n Nothing = Unit {0}
+Limited n (Is r) = r .high < n
 
 abbrev pub numbers : Pass → List Found → List ℕ
 numbers p fs = map (λ (x : Found). numberIn p (x .raw)) (keep (λ (x : Found). takes p (x .raw)) fs)

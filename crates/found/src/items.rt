@@ -100,7 +100,7 @@ fn start_at(image: &[u8], place: usize) -> u8
 // The version that a chunk or a blob index is of.
 pub fn version_at(image: &[u8], place: usize) -> Rank
     requires { ⌜ Placed (now image) place ⌝ }
-    ensures { λ r. ⌜ rankNumber r ≡ versionOf (itemAt (now (image .entry)) place .raw) ⌝ }
+    ensures { λ r. ⌜ (rankNumber r ≡ versionOf (itemAt (now (image .entry)) place .raw)) × (r .high < 65536) ⌝ }
 {
     Rank {
         high: word::wide(namespace_at(image, place)) * 256 + word::wide(start_at(image, place)),
@@ -110,7 +110,7 @@ pub fn version_at(image: &[u8], place: usize) -> Rank
 
 pub fn group_at(image: &[u8], place: usize) -> Rank
     requires { ⌜ Placed (now image) place ⌝ }
-    ensures { λ r. ⌜ rankNumber r ≡ groupOf (itemAt (now (image .entry)) place .raw) ⌝ }
+    ensures { λ r. ⌜ (rankNumber r ≡ groupOf (itemAt (now (image .entry)) place .raw)) × (r .high < 256) ⌝ }
 {
     Rank {
         high: word::wide(namespace_at(image, place)),

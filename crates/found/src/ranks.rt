@@ -13,7 +13,7 @@ ghost use mathlib.Core.Option.{none, some};
 ghost use lib.Dec.{eqb, ltb, leb};
 ghost use Rattle.lists.specs.Lists.{leastFrom};
 ghost use Rattle.found.specs.Places.{itemAt, itemsAt, Each, Placed};
-ghost use Rattle.found.specs.Ranks.{rankNumber, numberOf, above, takes, numberIn, numbers, lesserWith};
+ghost use Rattle.found.specs.Ranks.{rankNumber, numberOf, above, takes, numberIn, limit, Limited, numbers, lesserWith};
 
 // What items are taken in order of: a version's namespace and start, or a group's namespace, and then the key.
 pub struct Rank {
@@ -72,7 +72,7 @@ fn is_above(last: Next, r: Rank) -> bool
 // The rank of the item at the place, if the pass takes it.
 fn rank_in(image: &[u8], place: usize, pass: Pass) -> Next
     requires { ⌜ Placed (now image) place ⌝ }
-    ensures { λ r. ⌜ numberOf r ≡ cond (takes pass (itemAt (now (image .entry)) place .raw)) (some (numberIn pass (itemAt (now (image .entry)) place .raw))) none ⌝ }
+    ensures { λ r. ⌜ (numberOf r ≡ cond (takes pass (itemAt (now (image .entry)) place .raw)) (some (numberIn pass (itemAt (now (image .entry)) place .raw))) none) × Limited (limit pass) r ⌝ }
 {
     match pass {
         Pass::Parts => {
@@ -98,8 +98,8 @@ fn rank_in(image: &[u8], place: usize, pass: Pass) -> Next
 
 // The lesser of an item's rank and the least of those behind it.
 fn lesser_of(image: &[u8], place: usize, pass: Pass, last: Next, least: Next) -> Next
-    requires { ⌜ Placed (now image) place ⌝ }
-    ensures { λ r. ⌜ numberOf r ≡ lesserWith pass (above last) (itemAt (now (image .entry)) place .raw) (numberOf least) ⌝ }
+    requires { ⌜ Placed (now image) place × Limited (limit pass) least ⌝ }
+    ensures { λ r. ⌜ (numberOf r ≡ lesserWith pass (above last) (itemAt (now (image .entry)) place .raw) (numberOf least)) × Limited (limit pass) r ⌝ }
 {
     let Next::Is(r) = rank_in(image, place, pass) else {
         return least;
@@ -120,7 +120,7 @@ fn lesser_of(image: &[u8], place: usize, pass: Pass, last: Next, least: Next) ->
 // The least rank above the last one, or the very least where there was none.
 pub fn next_rank(image: &[u8], places: &[u16], pass: Pass, last: Next) -> Next
     requires { ⌜ Each (Placed (now image)) (now places) ⌝ }
-    ensures { λ r. ⌜ numberOf r ≡ leastFrom (above last) (numbers pass (itemsAt (now (image .entry)) (now (places .entry)))) ⌝ }
+    ensures { λ r. ⌜ (numberOf r ≡ leastFrom (above last) (numbers pass (itemsAt (now (image .entry)) (now (places .entry))))) × Limited (limit pass) r ⌝ }
 {
     let mut least = Next::Nothing;
     let mut i = places.len();

@@ -1,4 +1,5 @@
 -- `found::version_at` meets its contract: namespace and start in front, then the key. Assumes nothing.
+use native.Mathlib.Omega.{arith}
 use borrow.Author.Needs.{needs}
 use Rattle.found.specs.Found.{versionOf}
 use Rattle.found.proofs.Reading.{key-here}
@@ -10,7 +11,7 @@ unfolding versionOf
 returns c =
     let a = c .before .before .before .before .before .before in
     let key = key-here (a .args .image .now) (a .args .place) (a .pre) in
-    rw (c .key-at .ensures, ← key, c .before .wide2 .ensures .0, c .before .before .start-at .ensures, c .before .before .before .wide .ensures .0, c .before .before .before .before .namespace-at .ensures)
+    (rw (c .key-at .ensures, ← key, c .before .wide2 .ensures .0, c .before .before .start-at .ensures, c .before .before .before .wide .ensures .0, c .before .before .before .before .namespace-at .ensures), omega arith)
 
 pub version-at-spec : {M : Type 1} → statement M
 version-at-spec =
