@@ -25,11 +25,14 @@ mod of_crate {
 
     extern "C" {
         fn crate_reclaim(image: *mut u8, length: usize) -> u64;
+        fn crate_defragment_time(image: *mut u8, length: usize) -> u64;
         fn crate_recover(image: *mut u8, length: usize) -> u64;
         fn crate_crc(bytes: *const u8, length: usize) -> u32;
     }
 
     pub const RECLAIM: Option<Call> = Some(|image| unsafe { crate_reclaim(image.as_mut_ptr(), image.len()) });
+    pub const DEFRAGMENT_TIME: Option<Call> =
+        Some(|image| unsafe { crate_defragment_time(image.as_mut_ptr(), image.len()) });
     pub const RECOVER: Option<Call> = Some(|image| unsafe { crate_recover(image.as_mut_ptr(), image.len()) });
     pub const CRC: Option<fn(&[u8]) -> u32> = Some(|bytes| unsafe { crate_crc(bytes.as_ptr(), bytes.len()) });
 }
@@ -39,6 +42,7 @@ mod of_crate {
     use super::Call;
 
     pub const RECLAIM: Option<Call> = None;
+    pub const DEFRAGMENT_TIME: Option<Call> = None;
     pub const RECOVER: Option<Call> = None;
     pub const CRC: Option<fn(&[u8]) -> u32> = None;
 }
@@ -138,6 +142,14 @@ fn time_calls(what: &'static str, image: &[u8], limit: impl Fn() -> u32, ours: O
     line.print();
 }
 
+/// The crate's defragment without its scan: an instance of it keeps what the scan found, where document 01 scans anew.
+fn time_defragment(image: &[u8]) {
+    let Some(nanoseconds) = of_crate::DEFRAGMENT_TIME else { return };
+    let mut line = Line { what: "  the crate's part after its scan", ..Line::default() };
+    turns(|| line.theirs.0.push(nanoseconds(&mut image.to_vec()) as f64 / 1000.0));
+    line.print();
+}
+
 fn headers_of(image: &[u8]) -> u32 {
     image.chunks(SECTOR).map(header_crc).fold(0, |x, y| x ^ y)
 }
@@ -154,6 +166,7 @@ fn time_reclaims() {
         let source = &image[image.len() - 2 * SECTOR..image.len() - SECTOR];
         let limit = || headers_of(&image) ^ entries_of(source);
         time_calls(what, &image, limit, Some(reclaim), of_crate::RECLAIM);
+        time_defragment(&image);
     }
 }
 
