@@ -3,14 +3,14 @@
 use std::collections::{BTreeMap, BTreeSet};
 
 use model::branch::Branch;
-use model::items::{items, walk, Met};
+use model::items::{entry_crc, items, walk, Item, Met, KNOWN_TYPES};
 use model::protocol::{Case, Operation};
 use model::reclaim::reclaim;
 use model::recover::recover;
 use model::scan::{found, scan, whole_sectors};
 use model::sector::{
     entry_state, free, header_crc_right, number, state, state_of_word, total, version_known, EntryState,
-    ENTRIES, ENTRY_BYTES, SECTOR_BYTES,
+    State, ENTRIES, ENTRY_BYTES, SECTOR_BYTES,
 };
 use model::steps::{apply, sector_of, Outcome, Stage, Step};
 
@@ -47,6 +47,61 @@ pub fn in_class(case: &Case) -> Result<Outcome, Outside> {
     }
     cut_agrees(&outcome)?;
     Ok(outcome)
+}
+
+/// Whether both recoveries leave the same image, if not by the same steps: as the class, but the Active page that
+/// the finish stage erases as a partial copy may be torn. The crate's scan repairs it first.
+pub fn recovers_alike(case: &Case) -> Result<Outcome, Outside> {
+    let image = &case.image;
+    unless(whole_sectors(image).is_none(), "length")?;
+    let outcome = model_outcome(case);
+    unless(outcome.result != 0, "document 01 refuses")?;
+    let erased = erased_copy(image, &outcome);
+    for (place, sector) in image.chunks(SECTOR_BYTES).enumerate() {
+        match erased {
+            Some((copy, source)) if copy == place => {
+                clean(sector).or_else(|_| torn_copy(sector, &items(sector_of(image, source))))?
+            }
+            _ => clean(sector)?,
+        }
+    }
+    recovery_agrees(image, &outcome)?;
+    Ok(outcome)
+}
+
+/// The partial copy that the finish stage erases as its first step, and its source.
+fn erased_copy(image: &[u8], outcome: &Outcome) -> Option<(usize, usize)> {
+    let mut finishing = outcome.list.iter().filter_map(|tagged| match tagged.stage {
+        Stage::Finish { source } => Some((tagged.step, source)),
+        _ => None,
+    });
+    match finishing.next()? {
+        (Step::Erase { sector }, source) if state(sector_of(image, sector)) == State::Active => {
+            Some((sector, source))
+        }
+        _ => None,
+    }
+}
+
+/// All on the copy that the crate could take for an item is one of the source, and nothing reaches entry 125: a
+/// repair would leave no Empty entry, and Active order would mark the copy Full.
+fn torn_copy(sector: &[u8], on_source: &[Item]) -> Judged {
+    let last = &sector[64 + ENTRY_BYTES * (ENTRIES - 1)..];
+    let last_used =
+        entry_state(sector, ENTRIES - 1) != EntryState::Empty || last.iter().any(|byte| *byte != 0xFF);
+    unless(last_used, "torn copy that uses entry 125")?;
+    for (entry, bytes) in sector[64..].chunks(ENTRY_BYTES).enumerate() {
+        let mut header: [u8; ENTRY_BYTES] = bytes.try_into().expect("32 bytes");
+        if !KNOWN_TYPES.contains(&header[1]) {
+            header[1] = 0xFF;
+        }
+        if number(&header, 4) == entry_crc(&header) {
+            let copied = on_source.iter().any(|item| item.header[..] == *bytes);
+            unless(!copied, "torn copy with an item of its own")?;
+            unless(entry + header[2] as usize >= ENTRIES, "torn copy that reaches entry 125")?;
+        }
+    }
+    Ok(())
 }
 
 /// The sector gives the crate's scan nothing to repair, and both walks meet the same items.

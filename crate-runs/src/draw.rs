@@ -180,7 +180,8 @@ fn draw_sequences(random: &mut Random, pages: usize) -> Vec<u32> {
     sequences
 }
 
-fn draw_store(random: &mut Random, operation: Operation) -> Vec<u8> {
+/// A store without a cut.
+pub fn draw_store(random: &mut Random, operation: Operation) -> Vec<u8> {
     let sectors = random.choose(&[2, 2, 2, 2, 3, 3, 3, 4, 4, 5, 6, 8, 16]);
     let free = random.below(sectors).min(1 + random.below(3));
     let sequences = draw_sequences(random, sectors - free);

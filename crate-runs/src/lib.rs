@@ -4,6 +4,7 @@
 pub mod class;
 pub mod compare;
 pub mod crate_call;
+pub mod cuts;
 pub mod differences;
 pub mod draw;
 pub mod flash;

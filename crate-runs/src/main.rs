@@ -8,13 +8,14 @@ use std::process::ExitCode;
 use crate_runs::class::in_class;
 use crate_runs::compare::{check, compare};
 use crate_runs::crate_call::run;
-use crate_runs::{differences, draw, record, stories};
+use crate_runs::{cuts, differences, draw, record, stories};
 use model::protocol::{Case, Operation};
 
 const USAGE: &str = "crate-runs answer < cases > answers
 crate-runs select < cases > cases of the class
 crate-runs draw 0|1 COUNT SEED > cases of the class
 crate-runs compare 0|1 COUNT SEED [PROGRAM ARGUMENT..]
+crate-runs cuts COUNT SEED
 crate-runs check CASES ANSWERS
 crate-runs cases [NAME..]
 crate-runs image NAME > case
@@ -88,6 +89,7 @@ fn command(words: &[String]) -> Result<bool, Box<dyn Error>> {
             let (count, seed) = (count.parse()?, seed.parse()?);
             return Ok(compare(operation_of(operation)?, count, seed, program)?);
         }
+        ["cuts", count, seed] => return Ok(cuts::compare(count.parse()?, seed.parse()?)),
         ["check", cases, answers] => {
             return Ok(check(&read_cases(File::open(cases)?)?, &fs::read(answers)?));
         }
