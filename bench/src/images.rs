@@ -2,9 +2,9 @@
 use crate::crc::{crc, entry_crc, header_crc};
 
 pub const SECTOR: usize = 4096;
-pub const ENTRIES: usize = 126;
-pub const FULL: u32 = 0xFFFF_FFFC;
-pub const ACTIVE: u32 = 0xFFFF_FFFE;
+const ENTRIES: usize = 126;
+const FULL: u32 = 0xFFFF_FFFC;
+const ACTIVE: u32 = 0xFFFF_FFFE;
 
 const NUMBER: u8 = 0x08;
 const TEXT: u8 = 0x21;

@@ -98,7 +98,7 @@ impl Page {
     }
 
     pub fn namespace(self, name: &str) -> Page {
-        self.put(Fields { namespace: 0, kind: 0x01, ..fields(0x01, key_of(name), value(0xFFFF_FF01)) }, &[])
+        self.put(Fields { namespace: 0, ..fields(0x01, key_of(name), value(0xFFFF_FF01)) }, &[])
     }
 
     pub fn text(self, key: &str, payload: &[u8]) -> Page {
