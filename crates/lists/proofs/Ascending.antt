@@ -47,7 +47,8 @@ least-some v (x ∷ xs) w e = go (leastFrom v xs) refl e (least-some v xs)
 
     four : (b : Bool) (y : ℕ) → ltb y x ≡ b → v ≤ x → Least v xs y → cond b y x ≡ w → Least v (x ∷ xs) w
     four true y q h d f = let g = ltb-true y x q in (rw (← f) (inr (d .0)), rw (← f) (d .1), rw (← f) (λ c m k. ⊎-elim (λ a. omega arith) (λ a. d .2 c a k) m))
-    four false y q h d f = let g = ltb-false y x q in (rw (← f) (inl refl), rw (← f) h, rw (← f) (λ c m k. ⊎-elim (λ a. omega arith) (λ a. let n = d .2 c a k in omega arith) m))
+    four false y q h d f =
+        let g = ltb-false y x q in (rw (← f) (inl refl), rw (← f) h, rw (← f) (λ c m k. ⊎-elim (λ a. omega arith) (λ a. let n = d .2 c a k in omega arith) m))
 
     three : (b : Bool) (y : ℕ) → leb v x ≡ b → Least v xs y → cond b (some (cond (ltb y x) y x)) (some y) ≡ some w → Least v (x ∷ xs) w
     three true y q d f = four (ltb y x) y refl (leb-true v x q) d (cc)
@@ -96,7 +97,8 @@ in-ascend zero v cs c m h s =
     absurd (omega arith)
 in-ascend (suc n) v cs c m h s = go (leastFrom v cs) refl (λ w. in-ascend n (suc w) cs c m)
   where
-    go : (o : Option ℕ) → leastFrom v cs ≡ o → ((w : ℕ) → suc w ≤ c → sumOf (λ (x : ℕ). cond (leb (suc w) x) 1 0) cs ≤ n → c ∈ ascendFrom n (suc w) cs) → c ∈ ascendTo (λ (w : ℕ). ascendFrom n (suc w) cs) o
+    go : (o : Option ℕ) → leastFrom v cs ≡ o → ((w : ℕ) → suc w ≤ c → sumOf (λ (x : ℕ). cond (leb (suc w) x) 1 0) cs ≤ n → c ∈ ascendFrom n (suc w) cs)
+        → c ∈ ascendTo (λ (w : ℕ). ascendFrom n (suc w) cs) o
     go none q ih = let z = least-none v cs q c m in absurd (omega arith)
     go (some w) q ih =
         let d = least-some v cs w q in
@@ -106,7 +108,8 @@ in-ascend (suc n) v cs c m h s = go (leastFrom v cs) refl (λ w. in-ascend n (su
         let z = sum-less (λ (x : ℕ). cond (leb (suc w) x) 1 0) (λ (x : ℕ). cond (leb v x) 1 0) cs w (λ x. from-le v w x (d .1)) (d .0) (omega arith) in
         two (eqb c w) refl g z ih
       where
-        two : (b : Bool) → eqb c w ≡ b → w ≤ c → sumOf (λ (x : ℕ). cond (leb (suc w) x) 1 0) cs < sumOf (λ (x : ℕ). cond (leb v x) 1 0) cs → ((w : ℕ) → suc w ≤ c → sumOf (λ (x : ℕ). cond (leb (suc w) x) 1 0) cs ≤ n → c ∈ ascendFrom n (suc w) cs) → c ∈ (w ∷ ascendFrom n (suc w) cs)
+        two : (b : Bool) → eqb c w ≡ b → w ≤ c → sumOf (λ (x : ℕ). cond (leb (suc w) x) 1 0) cs < sumOf (λ (x : ℕ). cond (leb v x) 1 0) cs
+            → ((w : ℕ) → suc w ≤ c → sumOf (λ (x : ℕ). cond (leb (suc w) x) 1 0) cs ≤ n → c ∈ ascendFrom n (suc w) cs) → c ∈ (w ∷ ascendFrom n (suc w) cs)
         two true r g z ih = inl (eqb-true c w r)
         two false r g z ih = let k : (c ≡ w → ⊥) = eqb-false c w r in inr (ih w (omega arith) (omega arith))
 

@@ -13,11 +13,6 @@ _∈_ x [] = ⊥
 _∈_ x (y ∷ ys) = (x ≡ y) ⊎ (x ∈ ys)
 
 infix 50 _∈_
--- a test is one or the other, with the equation
-pub true-or-false : (b : Bool) → (b ≡ true) ⊎ (b ≡ false)
-true-or-false true = inl refl
-true-or-false false = inr refl
-
 pub true≢false : {b : Bool} → b ≡ true → b ≡ false → ⊥
 true≢false {b} p q = let z : _≡_ {A = ℕ} 0 1 = cc in omega arith
 

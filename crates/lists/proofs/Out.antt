@@ -39,7 +39,8 @@ module _ {A : Type 0} where
     sum-replace f [] x z m e h = absurd m
     sum-replace f (y ∷ ys) x z m e h = go (p y) refl m (λ n. sum-replace f ys x z n e (λ w k. h w (inr k)))
       where
-        go : (b : Bool) → p y ≡ b → x ∈ (y ∷ ys) → (x ∈ ys → sumOf f (replace p z ys) + f x ≡ sumOf f ys + f z) → sumOf f (cond b (z ∷ ys) (y ∷ replace p z ys)) + f x ≡ f y + sumOf f ys + f z
+        go : (b : Bool) → p y ≡ b → x ∈ (y ∷ ys) → (x ∈ ys → sumOf f (replace p z ys) + f x ≡ sumOf f ys + f z)
+            → sumOf f (cond b (z ∷ ys) (y ∷ replace p z ys)) + f x ≡ f y + sumOf f ys + f z
         go true q n ih = let r : f y ≡ f x = ap f (h y (inl refl) q) in omega arith
         go false q (inl r) ih = absurd (true≢false (sym (ap p r) ∙ e) q)
         go false q (inr n) ih = let r = ih n in omega arith
@@ -83,7 +84,8 @@ module _ {A : Type 0} where
       where
         pin : (z : A) → getLast? xs ≡ some z → (b : Bool) → p z ≡ b → sumOf f (cond b (dropLast xs) (replace p z (dropLast xs))) + f x ≡ sumOf f xs
         pin z q true r = let k : f z ≡ f x = ap f (h z (last-in xs z q) r) in let s = sum-dropLast f xs z q in omega arith
-        pin z q false r = ⊎-elim (λ k. absurd (true≢false (sym (ap p k) ∙ e) r)) (λ k. let s = sum-dropLast f xs z q in let t = sum-replace f (dropLast xs) x z k e (λ y n. h y (dropLast-in xs y n)) in omega arith) (in-dropLast xs x z q m)
+        pin z q false r =
+            ⊎-elim (λ k. absurd (true≢false (sym (ap p k) ∙ e) r)) (λ k. let s = sum-dropLast f xs z q in let t = sum-replace f (dropLast xs) x z k e (λ y n. h y (dropLast-in xs y n)) in omega arith) (in-dropLast xs x z q m)
 
         go : (o : Option A) → getLast? xs ≡ o → sumOf f (outWith p xs o) + f x ≡ sumOf f xs
         go none q = absurd (none≢some q (last-some xs x m .1))
@@ -108,14 +110,17 @@ module _ {A : Type 0} where
       where
         pin : (z : A) → getLast? xs ≡ some z → (b : Bool) → p z ≡ b → y ∈ cond b (dropLast xs) (replace p z (dropLast xs))
         pin z q true r = ⊎-elim (λ k. absurd (true≢false r (sym (ap p k) ∙ e))) (λ k. k) (in-dropLast xs y z q m)
-        pin z q false r = ⊎-elim (λ k. rw k (⊎-elim (λ w. absurd (true≢false (sym (ap p w) ∙ ex) r)) (λ w. has-replace (dropLast xs) x z w ex) (in-dropLast xs x z q mx))) (λ k. in-replace (dropLast xs) y z k e) (in-dropLast xs y z q m)
+        pin z q false r =
+            ⊎-elim (λ k. rw k (⊎-elim (λ w. absurd (true≢false (sym (ap p w) ∙ ex) r)) (λ w. has-replace (dropLast xs) x z w ex) (in-dropLast xs x z q mx)))
+            (λ k. in-replace (dropLast xs) y z k e) (in-dropLast xs y z q m)
 
         go : (o : Option A) → getLast? xs ≡ o → y ∈ outWith p xs o
         go none q = absurd (none≢some q (last-some xs y m .1))
         go (some z) q = pin z q (p z) refl
 
     -- after it none passes, where one passed
-    pub out-other : (xs : List A) (x : A) → x ∈ xs → p x ≡ true → sumOf (λ (y : A). cond (p y) 1 0) xs ≤ 1 → ((y : A) → y ∈ xs → p y ≡ true → y ≡ x) → (y : A) → y ∈ takeOut p xs → p y ≡ false
+    pub out-other : (xs : List A) (x : A) → x ∈ xs → p x ≡ true → sumOf (λ (y : A). cond (p y) 1 0) xs ≤ 1 → ((y : A) → y ∈ xs → p y ≡ true → y ≡ x) → (y : A)
+        → y ∈ takeOut p xs → p y ≡ false
     out-other xs x m e s h y n = go (p y) refl
       where
         go : (b : Bool) → p y ≡ b → p y ≡ false

@@ -18,7 +18,8 @@ module _ {A : Type 0} where
   keep-none p [] h = refl
   keep-none p (x ∷ xs) h = rw (h x (inl refl)) (keep-none p xs (λ y m. h y (inr m)))
 
-  keep-step : (p : A → Bool) (x : A) (xs : List A) (y : A) → (y ∈ keep p xs → (y ∈ xs) × (p y ≡ true)) → (b : Bool) → p x ≡ b → y ∈ cond b (x ∷ keep p xs) (keep p xs) → (y ∈ (x ∷ xs)) × (p y ≡ true)
+  keep-step : (p : A → Bool) (x : A) (xs : List A) (y : A) → (y ∈ keep p xs → (y ∈ xs) × (p y ≡ true)) → (b : Bool) → p x ≡ b
+      → y ∈ cond b (x ∷ keep p xs) (keep p xs) → (y ∈ (x ∷ xs)) × (p y ≡ true)
   keep-step p x xs y ih true e (inl q) = (inl q, ap p q ∙ e)
   keep-step p x xs y ih true e (inr m) = (inr (ih m .0), ih m .1)
   keep-step p x xs y ih false e m = (inr (ih m .0), ih m .1)
@@ -28,7 +29,8 @@ module _ {A : Type 0} where
   keep-in p [] y m = absurd m
   keep-in p (x ∷ xs) y m = keep-step p x xs y (keep-in p xs y) (p x) refl m
 
-  in-keep-step : (p : A → Bool) (x : A) (xs : List A) (y : A) → p y ≡ true → (y ∈ xs → y ∈ keep p xs) → (b : Bool) → p x ≡ b → y ∈ (x ∷ xs) → y ∈ cond b (x ∷ keep p xs) (keep p xs)
+  in-keep-step : (p : A → Bool) (x : A) (xs : List A) (y : A) → p y ≡ true → (y ∈ xs → y ∈ keep p xs) → (b : Bool) → p x ≡ b → y ∈ (x ∷ xs)
+      → y ∈ cond b (x ∷ keep p xs) (keep p xs)
   in-keep-step p x xs y e ih true q (inl r) = inl r
   in-keep-step p x xs y e ih true q (inr m) = inr (ih m)
   in-keep-step p x xs y e ih false q (inl r) = absurd (true≢false (sym (ap p r) ∙ e) q)
@@ -85,7 +87,8 @@ module _ {A : Type 0} where
   first-some p [] y m e = absurd m
   first-some p (x ∷ xs) y m e = go (p x) refl m (λ n. first-some p xs y n e)
     where
-      go : (b : Bool) → p x ≡ b → y ∈ (x ∷ xs) → (y ∈ xs → (z : A) × (firstOf p xs ≡ some z) × (z ∈ xs) × (p z ≡ true)) → (z : A) × (cond b (some x) (firstOf p xs) ≡ some z) × (z ∈ (x ∷ xs)) × (p z ≡ true)
+      go : (b : Bool) → p x ≡ b → y ∈ (x ∷ xs) → (y ∈ xs → (z : A) × (firstOf p xs ≡ some z) × (z ∈ xs) × (p z ≡ true))
+          → (z : A) × (cond b (some x) (firstOf p xs) ≡ some z) × (z ∈ (x ∷ xs)) × (p z ≡ true)
       go true q n ih = (x, refl, inl refl, q)
       go false q (inl r) ih = absurd (true≢false (sym (ap p r) ∙ e) q)
       go false q (inr n) ih = let r = ih n in (r .0, r .1, inr (r .2), r .3)
@@ -147,7 +150,8 @@ module _ {A : Type 0} where
       pin w false q h k (inl r) = let a : f x ≡ f z = ap f (cc) in let b : f y ≡ f x = ap f r in omega arith
       pin w false q h k (inr n) = let a : f x ≡ f z = ap f (cc) in let b = h y n in let c = leb-false (f x) (f w) q in omega arith
 
-      go : (o : Option A) → best (λ (y x : A). leb (f x) (f y)) xs ≡ o → some (better (λ (y x : A). leb (f x) (f y)) x o) ≡ some z → ((w : A) → best (λ (y x : A). leb (f x) (f y)) xs ≡ some w → (v : A) → v ∈ xs → f v ≤ f w) → y ∈ (x ∷ xs) → f y ≤ f z
+      go : (o : Option A) → best (λ (y x : A). leb (f x) (f y)) xs ≡ o → some (better (λ (y x : A). leb (f x) (f y)) x o) ≡ some z
+          → ((w : A) → best (λ (y x : A). leb (f x) (f y)) xs ≡ some w → (v : A) → v ∈ xs → f v ≤ f w) → y ∈ (x ∷ xs) → f y ≤ f z
       go none q k ih (inl r) = let a : f x ≡ f z = ap f (cc) in let b : f y ≡ f x = ap f r in omega arith
       go none q k ih (inr n) = absurd (none≢some q (best-some _ xs y n .1))
       go (some w) q k ih n = pin w (leb (f x) (f w)) refl (ih w q) k n

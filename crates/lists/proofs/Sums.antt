@@ -49,7 +49,8 @@ module _ {A : Type 0} where
   sum-keep p f [] = refl
   sum-keep p f (x ∷ xs) = go (p x) (sum-keep p f xs)
     where
-      go : (b : Bool) → sumOf f (keep p xs) ≡ sumOf (λ (x : A). cond (p x) (f x) 0) xs → sumOf f (cond b (x ∷ keep p xs) (keep p xs)) ≡ cond b (f x) 0 + sumOf (λ (x : A). cond (p x) (f x) 0) xs
+      go : (b : Bool) → sumOf f (keep p xs) ≡ sumOf (λ (x : A). cond (p x) (f x) 0) xs
+          → sumOf f (cond b (x ∷ keep p xs) (keep p xs)) ≡ cond b (f x) 0 + sumOf (λ (x : A). cond (p x) (f x) 0) xs
       go true q = omega arith
       go false q = omega arith
 

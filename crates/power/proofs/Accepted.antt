@@ -45,7 +45,8 @@ module _ (L : List ℕ) (s : ℕ) (G : Good L s) (small : (i : ℕ) → getD L i
   accept-by l e h = rw (whole-same l e, h)
 
   accept-final : (l : List ℕ) → Final L l → accepted l ≡ true
-  accept-final l F = accept-by l (F .len) (low-none (pages l) (freeings-none (pages l) (λ p m. rw (page-state l p m) (F .rest .no-freeing (p .sector) (pages-in l p m .1)))))
+  accept-final l F =
+      accept-by l (F .len) (low-none (pages l) (freeings-none (pages l) (λ p m. rw (page-state l p m) (F .rest .no-freeing (p .sector) (pages-in l p m .1)))))
 
   old-low : (p : Page) → Old L s p → sequence p < 0xFFFFFFF1
   old-low p k = let a = old-sequence L s p k in let b = G .below (p .sector) (k .1) (k .3) in omega arith

@@ -134,7 +134,8 @@ module _ (fs : List Found) (tidy : Tidy fs) (idle3 : blobSteps fs ≡ []) (idle4
       let i = both-first (isIndex (x .raw)) _ e in
       let w = eqb-true (versionOf (x .raw)) v (both-second (isIndex (x .raw)) _ e) in
       let t = tidy x m in
-      rw (index-not-chunk (x .raw) i, le-leb 1 (namespaceOf (x .raw)) (t .1 (index-part (x .raw) i)), eq-eqb (groupOf (x .raw)) (groupIn v) (version-group v (x .raw) (t .0) w))
+      rw
+      (index-not-chunk (x .raw) i, le-leb 1 (namespaceOf (x .raw)) (t .1 (index-part (x .raw) i)), eq-eqb (groupOf (x .raw)) (groupIn v) (version-group v (x .raw) (t .0) w))
 
   one-le : (a b : Bool) → (a ≡ true → b ≡ true) → one a ≤ one b
   one-le true b h = rw (h refl) (omega arith)
@@ -154,7 +155,8 @@ module _ (fs : List Found) (tidy : Tidy fs) (idle3 : blobSteps fs ≡ []) (idle4
       let c = single g in
       omega arith
     where
-      two : (x : Found) → x ∈ fs → (a : Bool) → indexOf (versionIn g 0) (x .raw) ≡ a → (b : Bool) → indexOf (versionIn g 0x80) (x .raw) ≡ b → one a + one b ≤ one (inGroup g (x .raw))
+      two : (x : Found) → x ∈ fs → (a : Bool) → indexOf (versionIn g 0) (x .raw) ≡ a → (b : Bool) → indexOf (versionIn g 0x80) (x .raw) ≡ b
+          → one a + one b ≤ one (inGroup g (x .raw))
       two x m false p false q = omega arith
       two x m true p false q = rw (rw (split-in (2 ^ 128) g 0 pow-pos (omega arith)) at (in-group (versionIn g 0) x m p)) (omega arith)
       two x m false p true q = rw (rw (split-in (2 ^ 128) g 128 pow-pos (omega arith)) at (in-group (versionIn g 0x80) x m q)) (omega arith)
@@ -170,7 +172,8 @@ module _ (fs : List Found) (tidy : Tidy fs) (idle3 : blobSteps fs ≡ []) (idle4
       let a = both-first (isPart (x .raw)) _ e in
       let b = eqb-true (versionOf (x .raw)) v (both-second (isPart (x .raw)) _ e) in
       let n = in-keep (λ (y : Found). isPart (y .raw)) fs x m a in
-      flatMap-each (judge fs) _ (nil-left _ _ (idle3)) v (in-ascending _ v (rw b at (in-map (λ (y : Found). versionOf (y .raw)) (keep (λ (y : Found). isPart (y .raw)) fs) x n)))
+      flatMap-each (judge fs) _ (nil-left _ _ (idle3)) v
+      (in-ascending _ v (rw b at (in-map (λ (y : Found). versionOf (y .raw)) (keep (λ (y : Found). isPart (y .raw)) fs) x n)))
 
   sound-index : (v : ℕ) (x : Found) → x ∈ fs → partOf v (x .raw) ≡ true → (i : Found) × (i ∈ indices v fs) × (sound v fs i ≡ true)
   unfolding judge judgeWith counting dropVersion
@@ -215,7 +218,8 @@ module _ (fs : List Found) (tidy : Tidy fs) (idle3 : blobSteps fs ≡ []) (idle4
       let e : s .0 ≡ o .0 = ⊎-elim (λ k. k) (λ k. absurd k) (rw (o .1) at (s .1)) in
       (o .0, o .1, rw (← e) (s .2))
 
-  count : (v : ℕ) → 1 ≤ tot (λ (r : List ℕ). one (indexOf v r)) fs → tot (λ (r : List ℕ). cond (indexOf v r) (indexCount r) 0) fs ≡ tot (λ (r : List ℕ). one (chunkOf v r)) fs
+  count : (v : ℕ) → 1 ≤ tot (λ (r : List ℕ). one (indexOf v r)) fs
+      → tot (λ (r : List ℕ). cond (indexOf v r) (indexCount r) 0) fs ≡ tot (λ (r : List ℕ). one (chunkOf v r)) fs
   unfolding sound
   count v h =
       let i = the-index v h in

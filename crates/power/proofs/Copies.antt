@@ -50,7 +50,8 @@ pub record Ready (q : ℕ) (R : List (List ℕ)) (T : List ℕ) : Type 0 where
   pub word : ((p < 126) × Word4 T 0xFE) ⊎ Word4 T 0xFC
 
 module _ (q : ℕ) (R : List (List ℕ)) where
-  pub copies-end : (T : List ℕ) (ys : List (List ℕ)) (p : ℕ) (xs : List Laid) → Shape q T ys p → (p < 126) → Word4 T 0xFE → ((i : ℕ) → 64 + p * 32 ≤ i → i < 4096 → getD T i 0 ≡ 0xFF)
+  pub copies-end : (T : List ℕ) (ys : List (List ℕ)) (p : ℕ) (xs : List Laid) → Shape q T ys p → (p < 126) → Word4 T 0xFE
+      → ((i : ℕ) → 64 + p * 32 ≤ i → i < 4096 → getD T i 0 ≡ 0xFF)
       → ys ++ raws xs ≡ R → p + spans (raws xs) ≤ 126 → AllFine (raws xs) → Ready q R (run (copies 0 p xs) T)
   unfolding copies run sumOf
   copies-end T ys p [] H h W on e f F = let z : ys ≡ R = sym (append-nil ys) ∙ e in record { p = p; shape = rw z at H; word = inl (h, W) }
@@ -63,12 +64,14 @@ module _ (q : ℕ) (R : List (List ℕ)) where
       (⊎-elim (λ k. copies-end T′ (ys ++ (r ∷ [])) (p + spanOf r) xs (d .0) (k .0) (k .1) (item-ones q T ys p H r (F .0) (omega arith) on W) a (omega arith) (F .1))
       (λ k. last T′ (ys ++ (r ∷ [])) (p + spanOf r) xs (d .0) (k .0) (k .1) a (omega arith) (F .1)) (d .1))
     where
-      last : (T′ : List ℕ) (ys′ : List (List ℕ)) (p′ : ℕ) (xs : List Laid) → Shape q T′ ys′ p′ → p′ ≡ 126 → Word4 T′ 0xFC → ys′ ++ raws xs ≡ R → p′ + spans (raws xs) ≤ 126 → AllFine (raws xs) → Ready q R (run (copies 0 p′ xs) T′)
+      last : (T′ : List ℕ) (ys′ : List (List ℕ)) (p′ : ℕ) (xs : List Laid) → Shape q T′ ys′ p′ → p′ ≡ 126 → Word4 T′ 0xFC → ys′ ++ raws xs ≡ R
+          → p′ + spans (raws xs) ≤ 126 → AllFine (raws xs) → Ready q R (run (copies 0 p′ xs) T′)
       last T′ ys′ p′ [] S z w a g K = let y : ys′ ≡ R = sym (append-nil ys′) ∙ a in record { p = p′; shape = rw y at S; word = inr w }
       last T′ ys′ p′ (y ∷ xs) S z w a g K = let b = K .0 .some in absurd (omega arith)
 
   -- a cut anywhere
-  pub copies-cut : (T : List ℕ) (ys : List (List ℕ)) (p : ℕ) (xs : List Laid) (k : ℕ) → Shape q T ys p → (p < 126) → Word4 T 0xFE → ((i : ℕ) → 64 + p * 32 ≤ i → i < 4096 → getD T i 0 ≡ 0xFF)
+  pub copies-cut : (T : List ℕ) (ys : List (List ℕ)) (p : ℕ) (xs : List Laid) (k : ℕ) → Shape q T ys p → (p < 126) → Word4 T 0xFE
+      → ((i : ℕ) → 64 + p * 32 ≤ i → i < 4096 → getD T i 0 ≡ 0xFF)
       → ys ++ raws xs ≡ R → p + spans (raws xs) ≤ 126 → AllFine (raws xs) → Going q R (run (take k (copies 0 p xs)) T) ⊎ Ready q R (run (take k (copies 0 p xs)) T)
   unfolding copies run sumOf
   copies-cut T ys p [] k H h W on e f F = rw (take-nil {A = Step} k) (inl (record { ys = ys; p = p; more = []; shape = H; word = W; all = e; fit = f; fine = tt }))
@@ -84,7 +87,8 @@ module _ (q : ℕ) (R : List (List ℕ)) where
       (λ z. inr (over T′ (ys ++ (r ∷ [])) (p + spanOf r) xs (suc (c .0)) (d .0) (z .0) (z .1) a (omega arith) (F .1))) (d .1))))
       (cut-append k (copying 0 p r) (copies 0 (p + spanOf r) xs))
     where
-      over : (T′ : List ℕ) (ys′ : List (List ℕ)) (p′ : ℕ) (xs : List Laid) (j : ℕ) → Shape q T′ ys′ p′ → p′ ≡ 126 → Word4 T′ 0xFC → ys′ ++ raws xs ≡ R → p′ + spans (raws xs) ≤ 126 → AllFine (raws xs) → Ready q R (run (take j (copies 0 p′ xs)) T′)
+      over : (T′ : List ℕ) (ys′ : List (List ℕ)) (p′ : ℕ) (xs : List Laid) (j : ℕ) → Shape q T′ ys′ p′ → p′ ≡ 126 → Word4 T′ 0xFC → ys′ ++ raws xs ≡ R
+          → p′ + spans (raws xs) ≤ 126 → AllFine (raws xs) → Ready q R (run (take j (copies 0 p′ xs)) T′)
       over T′ ys′ p′ [] j S z w a g K = let y : ys′ ≡ R = sym (append-nil ys′) ∙ a in rw (take-nil {A = Step} j) (record { p = p′; shape = rw y at S; word = inr w })
       over T′ ys′ p′ (y ∷ xs) j S z w a g K = let b = K .0 .some in absurd (omega arith)
 
@@ -92,11 +96,15 @@ module _ (q : ℕ) (R : List (List ℕ)) where
       none-left p′ [] z g K = refl
       none-left p′ (y ∷ xs) z g K = let b = K .0 .some in absurd (omega arith)
 
-      within : {T2 : List ℕ} → (Shape q T2 ys p × Word4 T2 0xFE) ⊎ ((Shape q T2 (ys ++ (x .raw ∷ [])) (p + spanOf (x .raw)) × Word4 T2 0xFE) ⊎ (Shape q T2 (ys ++ (x .raw ∷ [])) (p + spanOf (x .raw)) × (((p + spanOf (x .raw) < 126) × Word4 T2 0xFE) ⊎ ((p + spanOf (x .raw) ≡ 126) × Word4 T2 0xFC))))
+      within : {T2 : List ℕ}
+          → (Shape q T2 ys p × Word4 T2 0xFE) ⊎
+          ((Shape q T2 (ys ++ (x .raw ∷ [])) (p + spanOf (x .raw)) × Word4 T2 0xFE) ⊎ (Shape q T2 (ys ++ (x .raw ∷ [])) (p + spanOf (x .raw)) × (((p + spanOf (x .raw) < 126) × Word4 T2 0xFE) ⊎ ((p + spanOf (x .raw) ≡ 126) × Word4 T2 0xFC))))
           → (ys ++ (x .raw ∷ [])) ++ raws xs ≡ R → Going q R T2 ⊎ Ready q R T2
       within (inl z) a = inl (record { ys = ys; p = p; more = x .raw ∷ raws xs; shape = z .0; word = z .1; all = e; fit = f; fine = F })
-      within (inr (inl z)) a = inl (record { ys = ys ++ (x .raw ∷ []); p = p + spanOf (x .raw); more = raws xs; shape = z .0; word = z .1; all = a; fit = omega arith; fine = F .1 })
-      within (inr (inr (s, inl z))) a = inl (record { ys = ys ++ (x .raw ∷ []); p = p + spanOf (x .raw); more = raws xs; shape = s; word = z .1; all = a; fit = omega arith; fine = F .1 })
+      within (inr (inl z)) a =
+          inl (record { ys = ys ++ (x .raw ∷ []); p = p + spanOf (x .raw); more = raws xs; shape = z .0; word = z .1; all = a; fit = omega arith; fine = F .1 })
+      within (inr (inr (s, inl z))) a =
+          inl (record { ys = ys ++ (x .raw ∷ []); p = p + spanOf (x .raw); more = raws xs; shape = s; word = z .1; all = a; fit = omega arith; fine = F .1 })
       within (inr (inr (s, inr z))) a =
           let y : ys ++ (x .raw ∷ []) ≡ R = sym (append-nil (ys ++ (x .raw ∷ []))) ∙ ap {B = List (List ℕ)} (λ (w : List (List ℕ)). (ys ++ (x .raw ∷ [])) ++ w) (sym (none-left (p + spanOf (x .raw)) xs (z .0) (omega arith) (F .1))) ∙ a in
           inr (record { p = p + spanOf (x .raw); shape = rw y at s; word = inr (z .1) })
@@ -126,14 +134,17 @@ module _ (q : ℕ) (xs : List Laid) (T : List ℕ) where
       }
     where
       none : 126 ≤ G .p → G .ys ≡ raws xs
-      none h = let f = G .fit in let z = more-none (G .more) (G .fine) (omega arith) in sym (append-nil (G .ys)) ∙ ap {B = List (List ℕ)} (λ (w : List (List ℕ)). G .ys ++ w) (sym z) ∙ G .all
+      none h =
+          let f = G .fit in let z = more-none (G .more) (G .fine) (omega arith) in sym (append-nil (G .ys)) ∙ ap {B = List (List ℕ)} (λ (w : List (List ℕ)). G .ys ++ w) (sym z) ∙ G .all
 
   pub going-seq : q < 2 ^ 32 → Going q (raws xs) T → sequenceOf T ≡ q
   going-seq h G = shape-sequence q T (G .ys) (G .p) (G .shape) h
 
   -- all there
   pub ready-settled : Ready q (raws xs) T → Settled T
-  ready-settled D = ⊎-elim (λ k. inl (shape-active q T (raws xs) (D .p) (D .shape) (k .1), shape-room q T (raws xs) (D .p) (D .shape) (k .0))) (λ k. inr (shape-full q T (raws xs) (D .p) (D .shape) k)) (D .word)
+  ready-settled D =
+      ⊎-elim (λ k. inl (shape-active q T (raws xs) (D .p) (D .shape) (k .1), shape-room q T (raws xs) (D .p) (D .shape) (k .0)))
+      (λ k. inr (shape-full q T (raws xs) (D .p) (D .shape) k)) (D .word)
 
   pub ready-items : Ready q (raws xs) T → raws (itemsOf T) ≡ raws xs
   ready-items D = shape-items q T (raws xs) (D .p) (D .shape) (⊎-elim (λ k. rw (k .0)) (λ k. rw k) (ready-settled D))
@@ -177,7 +188,8 @@ module _ (S : List ℕ) (len : length S ≡ 4096) (small : (i : ℕ) → getD S 
     where
       go : (b : Bool) → isItem S i ≡ b
           → AllFine (raws (walk S n (onFrom S i))) × (spans (raws (walk S n (onFrom S i))) ≤ 126 - cond b (i + spanOf (entryAt S i)) (i + 1))
-          → AllFine (raws (cond b (laidAt S i ∷ walk S n (onFrom S i)) (walk S n (onFrom S i)))) × (spans (raws (cond b (laidAt S i ∷ walk S n (onFrom S i)) (walk S n (onFrom S i)))) ≤ 126 - i)
+          → AllFine (raws (cond b (laidAt S i ∷ walk S n (onFrom S i)) (walk S n (onFrom S i)))) ×
+          (spans (raws (cond b (laidAt S i ∷ walk S n (onFrom S i)) (walk S n (onFrom S i)))) ≤ 126 - i)
       go true q x = let I = item-is S i q in let a = raw-span S i I in let b = I .ends in let c = x .1 in ((fine-raw i I, x .0), omega arith)
       go false q x = let c = x .1 in (x .0, omega arith)
 
@@ -185,7 +197,8 @@ module _ (S : List ℕ) (len : length S ≡ 4096) (small : (i : ℕ) → getD S 
   unfolding itemsOf sumOf
   items-fine = go (isFree (stateOf S)) (walk-fine 126 0)
     where
-      go : (b : Bool) → AllFine (raws (walk S 126 0)) × (spans (raws (walk S 126 0)) ≤ 126 - 0) → AllFine (raws (cond b [] (walk S 126 0))) × (spans (raws (cond b [] (walk S 126 0))) ≤ 126)
+      go : (b : Bool) → AllFine (raws (walk S 126 0)) × (spans (raws (walk S 126 0)) ≤ 126 - 0)
+          → AllFine (raws (cond b [] (walk S 126 0))) × (spans (raws (cond b [] (walk S 126 0))) ≤ 126)
       go true x = (tt, omega arith)
       go false x = let c = x .1 in (x .0, omega arith)
 
@@ -193,4 +206,5 @@ module _ (S : List ℕ) (len : length S ≡ 4096) (small : (i : ℕ) → getD S 
 pub fine-fit : (p : ℕ) (xs : List Laid) → AllFine (raws xs) → p + spans (raws xs) ≤ 126 → AllFit 4096 (copies 0 p xs)
 unfolding copies sumOf
 fine-fit p [] F h = every-none (Fit 4096)
-fine-fit p (x ∷ xs) F h = every-append (Fit 4096) _ _ (copying-fit p (x .raw) (let b = F .0 .some in omega arith)) (fine-fit (p + spanOf (x .raw)) xs (F .1) (omega arith))
+fine-fit p (x ∷ xs) F h =
+    every-append (Fit 4096) _ _ (copying-fit p (x .raw) (let b = F .0 .some in omega arith)) (fine-fit (p + spanOf (x .raw)) xs (F .1) (omega arith))

@@ -23,7 +23,8 @@ unfolding sumOf
 pos-in p [] h = absurd (omega arith)
 pos-in p (x ∷ xs) h = go (p x) refl h (pos-in p xs)
   where
-    go : (b : Bool) → p x ≡ b → 1 ≤ one b + sumOf (λ (x : _). one (p x)) xs → (1 ≤ sumOf (λ (x : _). one (p x)) xs → (x : _) × (x ∈ xs) × (p x ≡ true)) → (y : _) × (y ∈ (x ∷ xs)) × (p y ≡ true)
+    go : (b : Bool) → p x ≡ b → 1 ≤ one b + sumOf (λ (x : _). one (p x)) xs → (1 ≤ sumOf (λ (x : _). one (p x)) xs → (x : _) × (x ∈ xs) × (p x ≡ true))
+        → (y : _) × (y ∈ (x ∷ xs)) × (p y ≡ true)
     go true q k ih = (x, inl refl, q)
     go false q k ih = let r = ih (omega arith) in (r .0, inr (r .1), r .2)
 

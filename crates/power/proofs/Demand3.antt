@@ -18,7 +18,7 @@ use Rattle.answer.specs.Staged.{untag}
 use Rattle.finish.specs.Finish.{nameOf, sameBytes}
 use Rattle.recover.specs.Recover.{accepted, recovery}
 use Rattle.power.specs.Demand3.{Demand3, Safe, Store, failing, held, recovered, recoveries, stored, total}
-use Rattle.power.proofs.Runs.{Runs}
+use Rattle.power.proofs.Runs.{Runs, calm-runs}
 use Rattle.power.proofs.Plain.{plain, plain-same}
 use Rattle.power.proofs.State.{Good, State}
 use Rattle.power.proofs.Same.{same-eq, same-refl}
@@ -39,17 +39,20 @@ module _ (L : List ℕ) (S : Store L) where
     unfolding recovery
     recovery-is l T = rw (accepts l T) (plain-same l)
 
-    on : (l : List ℕ) → State L s l → Runs L s G (S .bytes) (calm-items L S) l
-    on l T = runs L s G (S .bytes) (calm-items L S) l T
+    on : (l : List ℕ) → State L s l → Runs L s l
+    on l T = runs L s G (S .bytes) l T
+
+    steps-are : (l : List ℕ) (T : State L s l) → untag (recovery l) ≡ on l T .steps
+    steps-are l T = recovery-is l T ∙ calm-runs L s (calm-items L S) l (on l T)
 
     cut-state : (ks l : List ℕ) → State L s l → State L s (recoveries ks l)
     unfolding recoveries
     cut-state [] l T = T
-    cut-state (k ∷ ks) l T = cut-state ks (run (take k (untag (recovery l))) l) (rw (recovery-is l T) (on l T .cut k))
+    cut-state (k ∷ ks) l T = cut-state ks (run (take k (untag (recovery l))) l) (rw (steps-are l T) (on l T .cut k))
 
     end-final : (m : List ℕ) → State L s m → Final L (recovered m)
     unfolding recovered
-    end-final m T = rw (recovery-is m T) (on m T .end)
+    end-final m T = rw (steps-are m T) (on m T .end)
 
   -- an item's bytes determine its name
   held-once : (x : List ℕ) → held x L ≤ 1

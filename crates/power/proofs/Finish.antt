@@ -61,7 +61,8 @@ module _ (L : List ℕ) (s : ℕ) (G : Good L s) (r : PageRecord) (K : SourceRec
   finish-one ps fs l m h e = rw (e, first-only freeingPage ps S m S-freeing h, append-nil)
 
   -- ---- the sequence of a new target
-  pub seq-new : (ps : List Page) → ((p : Page) → p ∈ ps → (p ≡ S) ⊎ Old L s p) → ((u : ℕ) → u < sectorsOf L → (u ≡ s → ⊥) → isFree (stateOf (sector u L)) ≡ false → pageAt u L ∈ ps)
+  pub seq-new : (ps : List Page) → ((p : Page) → p ∈ ps → (p ≡ S) ⊎ Old L s p)
+      → ((u : ℕ) → u < sectorsOf L → (u ≡ s → ⊥) → isFree (stateOf (sector u L)) ≡ false → pageAt u L ∈ ps)
       → Seq L (nextSequence S ps)
   seq-new ps from has = record {
     above = λ u h e. go u h e (eqb u s) refl;
@@ -73,7 +74,8 @@ module _ (L : List ℕ) (s : ℕ) (G : Good L s) (r : PageRecord) (K : SourceRec
       go u h e false q = let a = greatest-ge sequence ps (pageAt u L) (has u h (eqb-false u s q) e) in let b = record-sequence (sector u L) e in omega arith
 
       small : (p : Page) → p ∈ ps → sequence p < 0xFFFFFFF0
-      small p m = ⊎-elim (λ k. let a = S-sequence p k in let b = G .below s (G .here) (G .page) in omega arith) (λ k. rw (old-sequence L s p k) (G .below (p .sector) (k .1) (k .3))) (from p m)
+      small p m =
+          ⊎-elim (λ k. let a = S-sequence p k in let b = G .below s (G .here) (G .page) in omega arith) (λ k. rw (old-sequence L s p k) (G .below (p .sector) (k .1) (k .3))) (from p m)
 
   -- ---- no target yet
   module _ (l : List ℕ) (D : Side L l s) (R : Source L l s) (ps : List Page) (fs : List ℕ)
@@ -139,14 +141,19 @@ module _ (L : List ℕ) (s : ℕ) (G : Good L s) (r : PageRecord) (K : SourceRec
     unfolding round roundWith afresh
     junk-round t e = rw (first-none activePage qs no-active) (go (newest qs) refl)
       where
-        fresh : (roundWith S qs fs l none) .steps ≡ (afresh S qs fs l (getLast? fs)) .steps → (q : ℕ) × Seq L q × ((roundWith S qs fs l none) .steps ≡ moving s t q (itemsOf (sector s L)) l)
+        fresh : (roundWith S qs fs l none) .steps ≡ (afresh S qs fs l (getLast? fs)) .steps
+            → (q : ℕ) × Seq L q × ((roundWith S qs fs l none) .steps ≡ moving s t q (itemsOf (sector s L)) l)
         fresh k = (nextSequence S qs, seq-new qs q-from q-has, k ∙ rw (e, in-s))
 
-        go : (o : Option Page) → newest qs ≡ o → (((roundWith S qs fs l none) .steps ≡ erase s ∷ []) × (itemsOf (sector s L) ≡ [])) ⊎ ((q : ℕ) × Seq L q × ((roundWith S qs fs l none) .steps ≡ moving s t q (itemsOf (sector s L)) l))
+        go : (o : Option Page) → newest qs ≡ o
+            → (((roundWith S qs fs l none) .steps ≡ erase s ∷ []) × (itemsOf (sector s L) ≡ [])) ⊎
+            ((q : ℕ) × Seq L q × ((roundWith S qs fs l none) .steps ≡ moving s t q (itemsOf (sector s L)) l))
         go none k = inr (fresh (unfold newestHolds in rw k))
         go (some y) k = two (newestHolds S l (some y)) refl
           where
-            two : (b : Bool) → newestHolds S l (some y) ≡ b → (((roundWith S qs fs l none) .steps ≡ erase s ∷ []) × (itemsOf (sector s L) ≡ [])) ⊎ ((q : ℕ) × Seq L q × ((roundWith S qs fs l none) .steps ≡ moving s t q (itemsOf (sector s L)) l))
+            two : (b : Bool) → newestHolds S l (some y) ≡ b
+                → (((roundWith S qs fs l none) .steps ≡ erase s ∷ []) × (itemsOf (sector s L) ≡ [])) ⊎
+                ((q : ℕ) × Seq L q × ((roundWith S qs fs l none) .steps ≡ moving s t q (itemsOf (sector s L)) l))
             two true z = inl (rw (k, z), holds-none y (unfold newest in best-in _ qs y k) z)
             two false z = inr (fresh (rw (k, z)))
 
@@ -177,7 +184,8 @@ module _ (L : List ℕ) (s : ℕ) (G : Good L s) (r : PageRecord) (K : SourceRec
     N-in = in-out (inSector s) ps S N here S-self there (ne-eqb t s ne)
 
     -- it is Active: a copy, which goes, and the source is copied afresh
-    pub part-round : M ≡ Active → isFree (stateOf (sector t L)) ≡ true → sumOf (λ (p : Page). cond (inSector t p) 1 0) ps ≤ 1 → ((p : Page) → p ∈ ps → inSector s p ≡ true → p ≡ S)
+    pub part-round : M ≡ Active → isFree (stateOf (sector t L)) ≡ true → sumOf (λ (p : Page). cond (inSector t p) 1 0) ps ≤ 1
+        → ((p : Page) → p ∈ ps → inSector s p ≡ true → p ≡ S)
         → copyOf (itemsIn t l) (itemsIn s l) ≡ true → itemsIn s (run (erase t ∷ []) l) ≡ itemsOf (sector s L)
         → (k : ℕ) × Seq L k × ((round S ps fs l) .steps ≡ erase t ∷ moving s t k (itemsOf (sector s L)) (run (erase t ∷ []) l))
     unfolding round roundWith after afresh
@@ -193,13 +201,15 @@ module _ (L : List ℕ) (s : ℕ) (G : Good L s) (r : PageRecord) (K : SourceRec
         us = takeOut (inSector t) ts
 
         t-only : (y : Page) → y ∈ ts → inSector t y ≡ true → y ≡ N
-        t-only y m e = ⊎-elim (λ k. absurd (ne (sym (eqb-true (y .sector) t e) ∙ ap {B = ℕ} (λ (p : Page). p .sector) k))) (λ k. ⊎-elim (λ z. z) (λ z. absurd (true≢false w (rw (eqb-true (y .sector) t e) at (z .3)))) k) (t-from y m)
+        t-only y m e =
+            ⊎-elim (λ k. absurd (ne (sym (eqb-true (y .sector) t e) ∙ ap {B = ℕ} (λ (p : Page). p .sector) k))) (λ k. ⊎-elim (λ z. z) (λ z. absurd (true≢false w (rw (eqb-true (y .sector) t e) at (z .3)))) k) (t-from y m)
 
         sm2 : sumOf (λ (p : Page). cond (inSector t p) 1 0) ts ≤ 1
         sm2 = let e = sum-out (inSector s) (λ (p : Page). cond (inSector t p) 1 0) ps S here S-self so in omega arith
 
         u-from : (p : Page) → p ∈ us → (p ≡ S) ⊎ Old L s p
-        u-from p m = ⊎-elim (λ k. inl k) (λ k. ⊎-elim (λ z. absurd (true≢false (ap {B = Bool} (λ (x : Page). inSector t x) z ∙ N-self) (out-other (inSector t) ts N N-in N-self sm2 t-only p m))) (λ z. inr z) k) (t-from p (out-in (inSector t) ts p m))
+        u-from p m =
+            ⊎-elim (λ k. inl k) (λ k. ⊎-elim (λ z. absurd (true≢false (ap {B = Bool} (λ (x : Page). inSector t x) z ∙ N-self) (out-other (inSector t) ts N N-in N-self sm2 t-only p m))) (λ z. inr z) k) (t-from p (out-in (inSector t) ts p m))
 
         u-has : (u : ℕ) → u < sectorsOf L → (u ≡ s → ⊥) → isFree (stateOf (sector u L)) ≡ false → pageAt u L ∈ us
         u-has u h k e = in-out (inSector t) ts N (pageAt u L) N-in N-self (t-has u h k e) (ne-eqb u t (λ z. true≢false w (rw z at e)))
@@ -210,10 +220,12 @@ module _ (L : List ℕ) (s : ℕ) (G : Good L s) (r : PageRecord) (K : SourceRec
     full-round a z e = rw (first-none activePage ts none-active, the-newest, holds)
       where
         none-active : (p : Page) → p ∈ ts → activePage p ≡ false
-        none-active p m = ⊎-elim (λ k. not-active p k) (λ k. ⊎-elim (λ w. ap {B = Bool} (λ (x : Page). activePage x) w ∙ rw (W .in-state, a)) (λ w. rw (old-full L s G p w)) k) (t-from p m)
+        none-active p m =
+            ⊎-elim (λ k. not-active p k) (λ k. ⊎-elim (λ w. ap {B = Bool} (λ (x : Page). activePage x) w ∙ rw (W .in-state, a)) (λ w. rw (old-full L s G p w)) k) (t-from p m)
 
         is-N : (y : Page) → y ∈ ts → q ≤ sequence y → y ≡ N
-        is-N y m h = ⊎-elim (λ k. absurd (let x : sequence y ≡ r .sequence = ap {B = ℕ} (λ (p : Page). sequence p) k in let c = K .same-sequence in let b = z .above s (G .here) (G .page) in omega arith))
+        is-N y m h =
+            ⊎-elim (λ k. absurd (let x : sequence y ≡ r .sequence = ap {B = ℕ} (λ (p : Page). sequence p) k in let c = K .same-sequence in let b = z .above s (G .here) (G .page) in omega arith))
             (λ k. ⊎-elim (λ w. w) (λ w. absurd (let x = old-sequence L s y w in let b = z .above (y .sector) (w .1) (w .3) in omega arith)) k) (t-from y m)
 
         the-newest : newest ts ≡ some N

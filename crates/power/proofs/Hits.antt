@@ -1,7 +1,7 @@
 -- Where stage 3 or the duplicates of stage 4 make a step, one of their steps erases the header of an item that was found. Assumes nothing.
 use mathlib.Core.Path.{_≡_, refl}
 use mathlib.Core.Logic.{_⊎_, inl, inr, ⊎-elim}
-use mathlib.Core.Bool.{Bool, _&&_, _||_, cond, false, not, true}
+use mathlib.Core.Bool.{Bool, _&&_, cond, false, not, true}
 use mathlib.Core.Option.{Option, none, some}
 use mathlib.Core.List.{List, [], _++_, _∷_, dropLast, flatMap}
 use Prim.Native.Nat.{_*_, _+_, _-_, _/_, _≤_, suc, zero, ℕ}
@@ -12,7 +12,7 @@ use Rattle.entry.specs.Fields.{spanOf}
 use Rattle.flash.specs.Step.{Step}
 use Rattle.item.specs.States.{stateWord, statesDown, unmarking}
 use Rattle.item.specs.Erase.{erasing}
-use Rattle.lists.specs.Lists.{best, insertBy, keep, sortBy}
+use Rattle.lists.specs.Lists.{best, insertBy, sortBy}
 use Rattle.lists.proofs.Search.{best-in, keep-in}
 use Rattle.lists.proofs.Out.{dropLast-in}
 use Rattle.lists.proofs.Maps.{flatMap-in}
@@ -20,6 +20,7 @@ use Rattle.lists.proofs.Member.{_∈_, in-left, in-right}
 use Rattle.found.specs.Found.{Found, chunkOf, chunks, eraseAll, indexOf, isIndex, newer, startIn, versionOf}
 use Rattle.blobs.specs.Blobs.{blobSteps, bothSound, counting, dropCounting, dropVersion, indices, judge, judgeWith, older, olderWith, sound, versionIn}
 use Rattle.duplicates.specs.Duplicates.{duplicateSteps, groups, members, olderThan, onceEach, outdated, withChunks}
+use Rattle.power.proofs.Idle.{newestOf}
 
 abbrev headWord : Found → ℕ → Step
 headWord x n = stateWord (x .sector * 4096) (x .entry) n 3 (x .entry / 16)
@@ -53,7 +54,8 @@ module _ (fs : List Found) (sp : Spanned fs) where
   all-hit : (xs : List Found) → ((x : Found) → x ∈ xs → x ∈ fs) → (eraseAll xs ≡ []) ⊎ Hit fs (eraseAll xs)
   unfolding eraseAll flatMap
   all-hit [] h = inl refl
-  all-hit (x ∷ xs) h = inr (hit-left fs (erasing (x .sector) (x .entry) (spanOf (x .raw))) _ (erasing-hit fs x (spanOf (x .raw)) (h x (inl refl)) (sp x (h x (inl refl)))))
+  all-hit (x ∷ xs) h =
+      inr (hit-left fs (erasing (x .sector) (x .entry) (spanOf (x .raw))) _ (erasing-hit fs x (spanOf (x .raw)) (h x (inl refl)) (sp x (h x (inl refl)))))
 
   drop-hit : (v : ℕ) (i : Found) → i ∈ fs → Hit fs (dropVersion v i fs)
   unfolding dropVersion
@@ -86,7 +88,9 @@ module _ (fs : List Found) (sp : Spanned fs) where
   unfolding older
   older-hit g = one-of (bothSound fs (versionIn g 0) (versionIn g 0x80))
     where
-      three : (b : Bool) (v w : ℕ) → (cond b (dropCounting w fs (counting w fs)) (dropCounting v fs (counting v fs)) ≡ []) ⊎ Hit fs (cond b (dropCounting w fs (counting w fs)) (dropCounting v fs (counting v fs)))
+      three : (b : Bool) (v w : ℕ)
+          → (cond b (dropCounting w fs (counting w fs)) (dropCounting v fs (counting v fs)) ≡ []) ⊎ Hit fs
+          (cond b (dropCounting w fs (counting w fs)) (dropCounting v fs (counting v fs)))
       three true v w = counted-hit w
       three false v w = counted-hit v
 
@@ -94,9 +98,9 @@ module _ (fs : List Found) (sp : Spanned fs) where
       two none v w = unfold olderWith in inl refl
       two (some i) v w = unfold olderWith in three (eqb (versionOf (i .raw)) v) v w
 
-      one-of : (b : Bool) → (cond b (olderWith (versionIn g 0) (versionIn g 0x80) fs (best newer (keep (λ (x : Found). ((indexOf (versionIn g 0) (x .raw)) || (indexOf (versionIn g 0x80) (x .raw)))) fs))) [] ≡ [])
-          ⊎ Hit fs (cond b (olderWith (versionIn g 0) (versionIn g 0x80) fs (best newer (keep (λ (x : Found). ((indexOf (versionIn g 0) (x .raw)) || (indexOf (versionIn g 0x80) (x .raw)))) fs))) [])
-      one-of true = two (best newer (keep (λ (x : Found). ((indexOf (versionIn g 0) (x .raw)) || (indexOf (versionIn g 0x80) (x .raw)))) fs)) (versionIn g 0) (versionIn g 0x80)
+      one-of : (b : Bool) → (cond b (olderWith (versionIn g 0) (versionIn g 0x80) fs (newestOf g fs)) [] ≡ [])
+          ⊎ Hit fs (cond b (olderWith (versionIn g 0) (versionIn g 0x80) fs (newestOf g fs)) [])
+      one-of true = two (newestOf g fs) (versionIn g 0) (versionIn g 0x80)
       one-of false = inl refl
 
   append-hit : (a b : List Step) → (a ≡ []) ⊎ Hit fs a → (b ≡ []) ⊎ Hit fs b → (a ++ b ≡ []) ⊎ Hit fs (a ++ b)
@@ -136,7 +140,7 @@ module _ (fs : List Found) (sp : Spanned fs) where
   with-in none x z m (inl e) = rw e m
   with-in none x z m (inr k) = absurd k
   with-in (some k) x z m (inl e) = rw e m
-  with-in (some k) x z m (inr w) = go (((isIndex (x .raw)) && (not (((isIndex (k .raw)) && (eqb (startIn (k .raw)) (startIn (x .raw)))))))) w
+  with-in (some k) x z m (inr w) = go (isIndex (x .raw) && not (isIndex (k .raw) && eqb (startIn (k .raw)) (startIn (x .raw)))) w
     where
       go : (b : Bool) → z ∈ cond b (chunks (versionOf (x .raw)) fs) [] → z ∈ fs
       go true y = keep-in (λ (u : Found). chunkOf (versionOf (x .raw)) (u .raw)) fs z y .0
@@ -146,7 +150,8 @@ module _ (fs : List Found) (sp : Spanned fs) where
   unfolding outdated
   outdated-in g z m =
       let r = flatMap-in (withChunks fs (best newer (members g fs))) (dropLast (sortBy olderThan (members g fs))) z m in
-      with-in (best newer (members g fs)) (r .0) z (keep-in _ fs (r .0) (sort-in (members g fs) (r .0) (dropLast-in (sortBy olderThan (members g fs)) (r .0) (r .1))) .0) (r .2)
+      with-in (best newer (members g fs)) (r .0) z
+      (keep-in _ fs (r .0) (sort-in (members g fs) (r .0) (dropLast-in (sortBy olderThan (members g fs)) (r .0) (r .1))) .0) (r .2)
 
   once-in : (xs : List Found) (z : Found) → z ∈ onceEach xs → z ∈ xs
   unfolding onceEach

@@ -31,10 +31,14 @@ abbrev pub tot : (List ℕ → ℕ) → List Found → ℕ
 tot f fs = sumOf (λ (x : Found). f (x .raw)) fs
 
 abbrev pub partOf : ℕ → List ℕ → Bool
-partOf v r = ((isPart r) && (eqb (versionOf r) v))
+partOf v r = isPart r && eqb (versionOf r) v
 
 abbrev pub inGroup : ℕ → List ℕ → Bool
-inGroup g r = ((ranked r) && (eqb (groupOf r) g))
+inGroup g r = ranked r && eqb (groupOf r) g
+
+-- the newest index of the two versions of group g
+abbrev pub newestOf : ℕ → List Found → Option Found
+newestOf g fs = best newer (keep (λ (x : Found). indexOf (versionIn g 0) (x .raw) || indexOf (versionIn g 0x80) (x .raw)) fs)
 
 -- all in sums: so it goes over to any store with the same sums
 pub record Calm (T : (List ℕ → ℕ) → ℕ) : Type 0 where
@@ -99,7 +103,7 @@ module _ (fs : List Found) (C : Calm (λ (f : List ℕ → ℕ). tot f fs)) wher
   unfolding older bothSound
   older-idle g = go (bothSound fs (versionIn g 0) (versionIn g 0x80)) refl
     where
-      go : (b : Bool) → bothSound fs (versionIn g 0) (versionIn g 0x80) ≡ b → cond b (olderWith (versionIn g 0) (versionIn g 0x80) fs (best newer (keep (λ (x : Found). ((indexOf (versionIn g 0) (x .raw)) || (indexOf (versionIn g 0x80) (x .raw)))) fs))) [] ≡ []
+      go : (b : Bool) → bothSound fs (versionIn g 0) (versionIn g 0x80) ≡ b → cond b (olderWith (versionIn g 0) (versionIn g 0x80) fs (newestOf g fs)) [] ≡ []
       go false q = refl
       go true q =
           let a = has-index (versionIn g 0) (both-first (soundOne (versionIn g 0) fs (counting (versionIn g 0) fs)) _ q) in

@@ -64,7 +64,9 @@ module _ (q : ℕ) (T : List ℕ) (len : length T ≡ 4096) (on : Ones T 0) wher
       ap (λ (r : List ℕ). getD r j 0) T2-is ∙ run-other 0 4 (words 0 (header q) 0 1) T1 j in-0 (inr g) ∙ (rw z at w)
 
   pub high : Ones T2 32
-  high j g h = ap (λ (r : List ℕ). getD r j 0) T2-is ∙ run-other 0 4 (words 0 (header q) 0 1) T1 j in-0 (inr (omega arith)) ∙ run-other 4 32 (words 0 (header q) 1 7) T j in-1 (inr g) ∙ on j (omega arith) h
+  high j g h =
+      ap (λ (r : List ℕ). getD r j 0) T2-is ∙ run-other 0 4 (words 0 (header q) 0 1) T1 j in-0 (inr (omega arith))
+      ∙ run-other 4 32 (words 0 (header q) 1 7) T j in-1 (inr g) ∙ on j (omega arith) h
 
   pub init-word : Word4 T2 0xFE
   unfolding header

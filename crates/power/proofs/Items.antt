@@ -65,14 +65,6 @@ walk-in t (suc n) i x m = go (isItem t i) refl m (walk-in t n (onFrom t i) x)
     go true q (inr k) f = f k
     go false q k f = f k
 
-pub items-in : (t : List ℕ) (x : Laid) → x ∈ itemsOf t → Real t x
-unfolding itemsOf
-items-in t x m = go (isFree (stateOf t)) m
-  where
-    go : (b : Bool) → x ∈ cond b [] (walk t 126 0) → Real t x
-    go true k = absurd k
-    go false k = walk-in t 126 0 x k
-
 pub raw-byte : (t : List ℕ) (i j : ℕ) → IsItem t i → j < 32 → getD (rawAt t i) j 0 ≡ getD (entryAt t i) j 0
 raw-byte t i j h k =
     let a = h .some in

@@ -17,6 +17,7 @@ pub mod Same
 pub mod Finish
 pub mod Steps
 pub mod Runs
+pub mod Ends
 pub mod Unmade
 pub mod Complete
 pub mod Partly

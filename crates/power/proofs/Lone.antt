@@ -54,7 +54,8 @@ module _ (l : List ℕ) (L : Lone l) (a : Page) (q : kept (pages l) ≡ some a) 
   -- an Active page is a
   active-a : (y : Page) → y ∈ pages l → activePage y ≡ true → y ≡ a
   unfolding Lone
-  active-a y m e = page-same l y a m (a-in .0) (L (y .sector) (a .sector) (pages-in l y m .1) (pages-in l a (a-in .0) .1) (active-is l y m e) (active-is l a (a-in .0) (a-in .1)))
+  active-a y m e =
+      page-same l y a m (a-in .0) (L (y .sector) (a .sector) (pages-in l y m .1) (pages-in l a (a-in .0) .1) (active-is l y m e) (active-is l a (a-in .0) (a-in .1)))
 
   a-self : inSector (a .sector) a ≡ true
   a-self = eq-eqb (a .sector) (a .sector) refl
@@ -91,8 +92,12 @@ module _ (l : List ℕ) (L : Lone l) (a : Page) (q : kept (pages l) ≡ some a) 
         steps = refl;
         sums = λ h. (let e = sum-out (inSector (a .sector)) (λ (p : Page). h (p .sector)) (pages l) a (a-in .0) a-self a-only in
             sum-append (λ (p : Page). h (p .sector)) qs (keptAs a ∷ [])
-            ∙ ap (λ (n : ℕ). sumOf (λ (p : Page). h (p .sector)) qs + n) (sum-one (λ (p : Page). h (p .sector)) (keptAs a ∷ []) (keptAs a) refl ∙ ap h (sector-same (noEmpty a))) ∙ e);
-        from = λ p m. ⊎-elim (λ k. inl (out-in (inSector (a .sector)) (pages l) p k, q-active p k)) (λ k. ⊎-elim (λ r. inr r) (λ r. absurd r) k) (in-append p qs (keptAs a ∷ []) m);
+            ∙ ap (λ (n : ℕ). sumOf (λ (p : Page). h (p .sector)) qs + n)
+            (sum-one (λ (p : Page). h (p .sector)) (keptAs a ∷ []) (keptAs a) refl ∙ ap h (sector-same (noEmpty a)))
+            ∙ e);
+        from =
+            λ p m. ⊎-elim (λ k. inl (out-in (inSector (a .sector)) (pages l) p k, q-active p k)) (λ k. ⊎-elim (λ r. inr r) (λ r. absurd r) k)
+            (in-append p qs (keptAs a ∷ []) m);
         others = λ p m e. in-left p qs _ (in-out (inSector (a .sector)) (pages l) a p (a-in .0) a-self m (not-a p e (inSector (a .sector) p) refl m));
         itself = in-right (keptAs a) qs _ (inl refl);
       })

@@ -56,7 +56,8 @@ module _ (q : ℕ) (xs : List Laid) (F : AllFine (raws xs)) (fit : spans (raws x
     start : Going q (raws xs) I
     start = record { ys = []; p = 0; more = raws xs; shape = init-shape q T len on; word = init-word q T len on; all = refl; fit = omega arith; fine = F }
 
-    fill-cut : (k : ℕ) → (isFree (stateOf (run (take k (fill q xs)) T)) ≡ true) ⊎ (Going q (raws xs) (run (take k (fill q xs)) T) ⊎ Ready q (raws xs) (run (take k (fill q xs)) T))
+    fill-cut : (k : ℕ)
+        → (isFree (stateOf (run (take k (fill q xs)) T)) ≡ true) ⊎ (Going q (raws xs) (run (take k (fill q xs)) T) ⊎ Ready q (raws xs) (run (take k (fill q xs)) T))
     fill-cut k = ⊎-elim
         (λ e. rw e (head k))
         (λ e. rw (e .1) (rw (run-append (initSteps q) (take (suc (e .0)) (copies 0 0 xs)) T)
@@ -66,8 +67,12 @@ module _ (q : ℕ) (xs : List Laid) (F : AllFine (raws xs)) (fit : spans (raws x
         one-left : (j : ℕ) → take (suc j) (words 0 (header q) 0 1) ≡ words 0 (header q) 0 1
         one-left j = unfold words in rw (take-nil {A = Step} j)
 
-        head : (k : ℕ) → (isFree (stateOf (run (take k (initSteps q)) T)) ≡ true) ⊎ (Going q (raws xs) (run (take k (initSteps q)) T) ⊎ Ready q (raws xs) (run (take k (initSteps q)) T))
-        head k = ⊎-elim (λ e. inl (rw e (init-junk q T len on k))) (λ e. inr (inl (rw (e .1, one-left (e .0)) start))) (cut-append k (words 0 (header q) 1 7) (words 0 (header q) 0 1))
+        head : (k : ℕ)
+            → (isFree (stateOf (run (take k (initSteps q)) T)) ≡ true) ⊎
+            (Going q (raws xs) (run (take k (initSteps q)) T) ⊎ Ready q (raws xs) (run (take k (initSteps q)) T))
+        head k =
+            ⊎-elim (λ e. inl (rw e (init-junk q T len on k))) (λ e. inr (inl (rw (e .1, one-left (e .0)) start)))
+            (cut-append k (words 0 (header q) 1 7) (words 0 (header q) 0 1))
 
   fill-fit : AllFit 4096 (fill q xs)
   fill-fit = every-append (Fit 4096) _ _ (header-fit (header q)) (fine-fit 0 xs F (omega arith))
@@ -83,7 +88,8 @@ module _ (q : ℕ) (xs : List Laid) (F : AllFine (raws xs)) (fit : spans (raws x
     moving-is : moving s t q xs l ≡ clearing t l ++ (shift (t * 4096) (fill q xs) ++ (erase s ∷ []))
     unfolding moving initialising
     moving-is =
-        rw (header-shift (t * 4096) (header q), copies-shift (t * 4096) 0 xs, append-assoc, ← (append-assoc (shift (t * 4096) (initSteps q)) (shift (t * 4096) (copies 0 0 xs)) (erase s ∷ [])), ← (shift-append (t * 4096) (initSteps q) (copies 0 0 xs)))
+        rw
+        (header-shift (t * 4096) (header q), copies-shift (t * 4096) 0 xs, append-assoc (clearing t l) (shift (t * 4096) (initSteps q)) (shift (t * 4096) (copies 0 0 xs) ++ (erase s ∷ [])), ← (append-assoc (shift (t * 4096) (initSteps q)) (shift (t * 4096) (copies 0 0 xs)) (erase s ∷ [])), ← (shift-append (t * 4096) (initSteps q) (copies 0 0 xs)))
 
     -- after the clearing
     abbrev l1 : List ℕ
@@ -128,7 +134,8 @@ module _ (q : ℕ) (xs : List Laid) (F : AllFine (raws xs)) (fit : spans (raws x
         let f = every-take (Fit 4096) j (fill q xs) fill-fit in
         let loc = sector-local t (take j (fill q xs)) l1 f in
         let o = others-2 (take j (fill q xs)) f in
-        rw (take-shift (t * 4096) j (fill q xs)) (⊎-elim (λ c. unmade o (rw loc c)) (λ c. ⊎-elim (λ d. going o (rw loc d)) (λ d. ready o (rw loc d)) c) (fill-cut (sector t l1) len-t1 clear-ones j))
+        rw (take-shift (t * 4096) j (fill q xs))
+        (⊎-elim (λ c. unmade o (rw loc c)) (λ c. ⊎-elim (λ d. going o (rw loc d)) (λ d. ready o (rw loc d)) c) (fill-cut (sector t l1) len-t1 clear-ones j))
 
     abbrev Whole : List ℕ → Type 0
     Whole m = ((u : ℕ) → (u ≡ t → ⊥) → (u ≡ s → ⊥) → sector u m ≡ sector u l) × Ready q (raws xs) (sector t m) × (sector s m ≡ blank 4096)
@@ -142,7 +149,8 @@ module _ (q : ℕ) (xs : List Laid) (F : AllFine (raws xs)) (fit : spans (raws x
         (λ u a b. kept u b ∙ others-2 (fill q xs) fill-fit u a, rw at (fill-end (sector t l1) len-t1 clear-ones), erased-blank s l2 (omega arith))
 
     pub move-end : ((u : ℕ) → (u ≡ t → ⊥) → (u ≡ s → ⊥) → sector u (run (moving s t q xs l) l) ≡ sector u l) × Ready q (raws xs) (sector t (run (moving s t q xs l) l)) × (sector s (run (moving s t q xs l) l) ≡ blank 4096)
-    move-end = rw (moving-is, run-append (clearing t l) (shift (t * 4096) (fill q xs) ++ (erase s ∷ [])) l, run-append (shift (t * 4096) (fill q xs)) (erase s ∷ []) l1) whole
+    move-end =
+        rw (moving-is, run-append (clearing t l) (shift (t * 4096) (fill q xs) ++ (erase s ∷ [])) l, run-append (shift (t * 4096) (fill q xs)) (erase s ∷ []) l1) whole
 
     pub move-cut : (k : ℕ) → Cut s t l (run (take k (moving s t q xs l)) l)
     move-cut k = rw moving-is (⊎-elim

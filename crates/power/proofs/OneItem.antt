@@ -46,7 +46,8 @@ module _ (q : ℕ) (T : List ℕ) (ys : List (List ℕ)) (p : ℕ) (H : Shape q 
   shape-T1 = shape-words q T ys p (64 + (p + n) * 32) ws ws-in H
 
   read-T1 : (j : ℕ) → j < n * 32 → getD T1 (64 + p * 32 + j) 0 ≡ getD r j 0
-  read-T1 j h = words-read (0 + 64 + p * 32) r T 0 (n * 8) (let a = H .len in omega arith) (F .small) (λ i a b. ones (0 + 64 + p * 32 + i) (omega arith) (omega arith)) j (omega arith) (omega arith)
+  read-T1 j h =
+      words-read (0 + 64 + p * 32) r T 0 (n * 8) (let a = H .len in omega arith) (F .small) (λ i a b. ones (0 + 64 + p * 32 + i) (omega arith) (omega arith)) j (omega arith) (omega arith)
 
   -- any steps on the state map keep what is read of the item's bytes
   raw-in : (T2 : List ℕ) → length T2 ≡ 4096 → ((i : ℕ) → 64 ≤ i → getD T2 i 0 ≡ getD T1 i 0) → part T2 (64 + p * 32) (n * 32) ≡ r
@@ -108,7 +109,8 @@ module _ (q : ℕ) (T : List ℕ) (ys : List (List ℕ)) (p : ℕ) (H : Shape q 
     end-T3 = ⊎-elim (λ h. yes (omega arith)) (λ h. not (omega arith)) (le-or-gt 126 (p + n))
       where
         yes : p + n ≡ 126 → Ended (run fm (run st T1))
-        yes e = rw (full-yes 0 (p + n) e) (shape-marked q (run st T1) ys′ (p + n) shape-T2, inr (e, marked-word (run st T1) 0xFC (let l2 = shape-T2 .len in omega arith) 0xFE 0xFC word-T2 refl))
+        yes e =
+            rw (full-yes 0 (p + n) e) (shape-marked q (run st T1) ys′ (p + n) shape-T2, inr (e, marked-word (run st T1) 0xFC (let l2 = shape-T2 .len in omega arith) 0xFE 0xFC word-T2 refl))
 
         not : p + n < 126 → Ended (run fm (run st T1))
         not h = rw (full-no 0 (p + n) (λ e. omega arith)) (unfold run in (shape-T2, inl (h, word-T2)))
@@ -120,7 +122,8 @@ module _ (q : ℕ) (T : List ℕ) (ys : List (List ℕ)) (p : ℕ) (H : Shape q 
     pub item-cut : (k : ℕ) → (Shape q (run (take k (copying 0 p r)) T) ys p × Word4 (run (take k (copying 0 p r)) T) 0xFE)
         ⊎ ((Shape q (run (take k (copying 0 p r)) T) ys′ (p + n) × Word4 (run (take k (copying 0 p r)) T) 0xFE) ⊎ Ended (run (take k (copying 0 p r)) T))
     unfolding copying
-    item-cut k = ⊎-elim (λ e. inl (rw e (in-words k))) (λ e. rw (e .1) (rw (run-append ws (take (suc (e .0)) (st ++ fm)) T) (inr (past (e .0))))) (cut-append k ws (st ++ fm))
+    item-cut k =
+        ⊎-elim (λ e. inl (rw e (in-words k))) (λ e. rw (e .1) (rw (run-append ws (take (suc (e .0)) (st ++ fm)) T) (inr (past (e .0))))) (cut-append k ws (st ++ fm))
       where
         in-words : (k : ℕ) → Shape q (run (take k ws) T) ys p × Word4 (run (take k ws) T) 0xFE
         in-words k =
@@ -136,7 +139,8 @@ module _ (q : ℕ) (T : List ℕ) (ys : List (List ℕ)) (p : ℕ) (H : Shape q 
             not : p + n < 126 → Ended (run (take (suc j) fm) (run st T1))
             not h = let d : (p + n ≡ 126 → ⊥) = (λ e. omega arith) in let z = rw (full-no 0 (p + n) d) at end-T3 in rw (full-no 0 (p + n) d) z
 
-        past : (j : ℕ) → (Shape q (run (take (suc j) (st ++ fm)) T1) ys′ (p + n) × Word4 (run (take (suc j) (st ++ fm)) T1) 0xFE) ⊎ Ended (run (take (suc j) (st ++ fm)) T1)
+        past : (j : ℕ)
+            → (Shape q (run (take (suc j) (st ++ fm)) T1) ys′ (p + n) × Word4 (run (take (suc j) (st ++ fm)) T1) 0xFE) ⊎ Ended (run (take (suc j) (st ++ fm)) T1)
         past j = ⊎-elim
             (λ e. inl (rw e (shape-states j, word-keep (take (suc j) st) T1 32 64 0xFE (every-take (In 32 64) (suc j) st st-in) (omega arith) word-T1)))
             (λ e. inr (rw (e .1) (rw (run-append st (take (suc (e .0)) fm) T1) (past-full (e .0)))))
@@ -153,4 +157,6 @@ module _ (q : ℕ) (T : List ℕ) (ys : List (List ℕ)) (p : ℕ) (H : Shape q 
         ∙ ones i (omega arith) b
       where
         full-in : AllIn 0 4 fm
-        full-in = ⊎-elim (λ h. rw (full-yes 0 (p + n) (omega arith)) (every-one (In 0 4) _ (omega arith, omega arith))) (λ h. rw (full-no 0 (p + n) (λ e. omega arith)) (every-none (In 0 4))) (le-or-gt 126 (p + n))
+        full-in =
+            ⊎-elim (λ h. rw (full-yes 0 (p + n) (omega arith)) (every-one (In 0 4) _ (omega arith, omega arith)))
+            (λ h. rw (full-no 0 (p + n) (λ e. omega arith)) (every-none (In 0 4))) (le-or-gt 126 (p + n))

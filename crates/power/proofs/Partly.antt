@@ -4,7 +4,7 @@ use mathlib.Core.Path.{_∙_, _≡_, ap, refl, sym}
 use mathlib.Core.Logic.{_⊎_, inl, inr, ⊎-elim}
 use mathlib.Core.Bool.{Bool, cond, false, true}
 use mathlib.Core.Option.{some}
-use mathlib.Core.List.{List, [], _∷_}
+use mathlib.Core.List.{List, [], _++_, _∷_}
 use Prim.Native.Nat.{_*_, _+_, _<_, _≤_, suc, zero, ℕ}
 use native.Mathlib.Nat.{add-zero}
 use native.Mathlib.Omega.{arith}
@@ -35,18 +35,17 @@ use Rattle.table.proofs.Pages.{in-pages, once, page-empty, page-state}
 use Rattle.order.specs.Order.{kept, noEmpty, ordered, ordering}
 use Rattle.finish.specs.Finish.{copyOf}
 use Rattle.recover.specs.Recover.{freeings}
-use Rattle.power.specs.Demand3.{total}
-use Rattle.power.proofs.State.{AllFree, Good, Old, Partial, Side, Source, SourceRecord, State, Target, TargetRecord, freeings-one, full, old-full, old-in, partly, source-in, source-record, target-in, target-page, target-record}
-use Rattle.power.proofs.Runs.{Runs, e-done, one-step, rec-some, room, run-nil, run-one, tail-idle}
+use Rattle.power.proofs.State.{AllFree, Good, Old, Partial, Side, Source, SourceRecord, State, Target, TargetRecord, freeings-one, full, old-full, old-in, partly, source-in, source-record, target-apart, target-in, target-page, target-record}
+use Rattle.power.proofs.Runs.{Runs, rec-some, rescan, run-nil, run-one}
 use Rattle.power.proofs.Lone.{Kept, Lone, kept-order, keptAs}
 use Rattle.power.proofs.Complete.{full-steps}
 use Rattle.power.proofs.Unmade.{move-runs}
-use Rattle.power.proofs.Idle.{Calm}
 use Rattle.power.proofs.Finish.{finish-one, part-round}
 use Rattle.power.proofs.Read.{items-same, marked-drop, marked-sequence, noRoom, to-full}
 use Rattle.power.proofs.Move.{blank-free, erase-in, erased-blank}
 use Rattle.power.proofs.Plain.{finishOn, plain}
 use Rattle.power.proofs.Shape.{raws}
+use Rattle.power.proofs.Ends.{e-done, one-step, room}
 use Rattle.power.proofs.Same.{copy-is}
 use Rattle.power.proofs.Steps.{Final}
 use Rattle.power.proofs.Items.{listed-items}
@@ -59,14 +58,15 @@ mark-sector t b l =
     ap (λ (k : ℕ). sector t (run (pageState k b ∷ []) l)) (sym (add-zero (t * 4096)))
     ∙ sector-local t (pageState 0 b ∷ []) l (every-one (Fit 4096) _ (omega arith))
 
-module _ (L : List ℕ) (s : ℕ) (G : Good L s) (small : (i : ℕ) → getD L i 0 < 256) (C : Calm (λ (f : List ℕ → ℕ). total f L)) where
+module _ (L : List ℕ) (s : ℕ) (G : Good L s) (small : (i : ℕ) → getD L i 0 < 256) where
   abbrev n : ℕ
   n = sectorsOf L
 
   abbrev X : List Laid
   X = itemsOf (sector s L)
 
-  module _ (l : List ℕ) (t q : ℕ) (D : Side L l s) (R : Source L l s) (T : Target L l t q) (mk : stateOf (sector t l) ≡ Active) (P : Partial (sector s L) (sector t l)) where
+  module _ (l : List ℕ) (t q : ℕ) (D : Side L l s) (R : Source L l s) (T : Target L l t q) (mk : stateOf (sector t l) ≡ Active)
+      (P : Partial (sector s L) (sector t l)) where
     abbrev S : Page
     S = pageAt s l
 
@@ -80,7 +80,7 @@ module _ (L : List ℕ) (s : ℕ) (G : Good L s) (small : (i : ℕ) → getD L i
     W = target-record L s G l D t q T Active mk refl
 
     not-s : t ≡ s → ⊥
-    not-s k = true≢false (T .was) (rw (← k) at (G .page))
+    not-s k = target-apart L l t q T s (G .page) (sym k)
 
     state : State L s l
     state = partly t q D R T mk P
@@ -160,7 +160,8 @@ module _ (L : List ℕ) (s : ℕ) (G : Good L s) (small : (i : ℕ) → getD L i
     one-q =
         let h : ℕ → ℕ = (λ (u : ℕ). one (freeing (stateOf (sector u l)))) in
         sum-ext (λ (p : Page). one (freeingPage p)) (λ (p : Page). h (p .sector)) qs at-q ∙ O .sums h
-        ∙ sum-ext (λ (p : Page). h (p .sector)) (λ (p : Page). one (freeingPage p)) (pages l) (λ p m. sym (at-p p m)) ∙ freeings-one L s G l D R (λ p m. is-freeing p (from p m))
+        ∙ sum-ext (λ (p : Page). h (p .sector)) (λ (p : Page). one (freeingPage p)) (pages l) (λ p m. sym (at-p p m))
+        ∙ freeings-one L s G l D R (λ p m. is-freeing p (from p m))
       where
         at-p : (p : Page) → p ∈ pages l → one (freeingPage p) ≡ one (freeing (stateOf (sector (p .sector) l)))
         at-p p m = rw (page-state l p m)
@@ -190,17 +191,14 @@ module _ (L : List ℕ) (s : ℕ) (G : Good L s) (small : (i : ℕ) → getD L i
     x-others : (u : ℕ) → (u ≡ t → ⊥) → sector u lt ≡ sector u l
     x-others u k = sector-kept u t (erase t ∷ []) l k (erase-in t)
 
-    x-not : (u : ℕ) → isFree (stateOf (sector u L)) ≡ false → u ≡ t → ⊥
-    x-not u e k = true≢false (T .was) (rw k at e)
-
     x-side : Side L lt s
-    x-side = record { len = length-run (erase t ∷ []) l ∙ D .len; kept = λ u h k e. x-others u (x-not u e) ∙ D .kept u h k e }
+    x-side = record { len = length-run (erase t ∷ []) l ∙ D .len; kept = λ u h k e. x-others u (target-apart L l t q T u e) ∙ D .kept u h k e }
 
     x-source : Source L lt s
-    x-source = let z = x-others s (x-not s (G .page)) in record { state = rw z (R .state); seq = rw z (R .seq); items = rw z (R .items) }
+    x-source = let z = x-others s (target-apart L l t q T s (G .page)) in record { state = rw z (R .state); seq = rw z (R .seq); items = rw z (R .items) }
 
     x-free-t : isFree (stateOf (sector t lt)) ≡ true
-    x-free-t = rw (erased-blank t l (room L s G small C l (D .len) t (T .here))) blank-free
+    x-free-t = rw (erased-blank t l (room L s G small l (D .len) t (T .here))) blank-free
 
     x-free : AllFree L lt
     x-free u h f = go (eqb u t) refl
@@ -209,7 +207,7 @@ module _ (L : List ℕ) (s : ℕ) (G : Good L s) (small : (i : ℕ) → getD L i
         go true k = rw (eqb-true u t k) x-free-t
         go false k = rw (x-others u (eqb-false u t k)) (T .rest u h (eqb-false u t k) f)
 
-    part-again : noRoom (sector t l) ≡ false → Runs L s G small C l
+    part-again : noRoom (sector t l) ≡ false → Runs L s l
     part-again ne =
         let nn : noEmpty N ≡ false = room-is ∙ ne in
         let kn : keptAs N ≡ N = rw nn in
@@ -220,15 +218,16 @@ module _ (L : List ℕ) (s : ℕ) (G : Good L s) (small : (i : ℕ) → getD L i
         let cp : copyOf (itemsIn t l) (itemsIn s l) ≡ true =
         rw (listed-items t l (rw mk), listed-items s l (rw (R .state))) (copy-is (itemsOf (sector t l)) (itemsOf (sector s l)) (λ y m. let r = P .sub y m in (r .0, rw (R .items) (r .1), r .2))) in
         let r =
-        part-round L s G (recordOf (sector s l)) K l t q Active (recordOf (sector t l)) W not-s qs (frees l) which old-q source-q (rw kn at (O .itself)) refl (T .was) sm so cp
+        part-round L s G (recordOf (sector s l)) K l t q Active (recordOf (sector t l)) W not-s qs (frees l) which old-q source-q (rw kn at (O .itself)) refl
+        (T .was) sm so cp
         (listed-items s lt (rw (x-source .state)) ∙ x-source .items) in
-        let mv = move-runs L s G small C lt x-side x-source t (T .here) (T .was) x-free t (r .0) (T .here) x-free-t (r .1) in
+        let mv = move-runs L s G small lt x-side x-source t (T .here) (T .was) x-free t (r .0) (T .here) x-free-t (r .1) in
         let f = erase t ∷ moving s t (r .0) X lt in
         let Z : Final L (run (erase t ∷ moving s t (r .0) X lt) l) = rw (run-one (erase t) (moving s t (r .0) X lt) l) (mv .1) in
-        let e1 = finish-one L s G (recordOf (sector s l)) K qs (frees l) l source-q (λ p m z. is-freeing p (which p m) z) one-q in
-        let e2 : finishOn qs (frees l) l ≡ erase t ∷ moving s t (r .0) X lt = e1 ∙ rw (r .2) (tail-idle L s G small C l f Z) in
-        let e : plain l ≡ erase t ∷ moving s t (r .0) X lt = rec-some l one-q ∙ rw (k0, run-nil l) e2 in
-        record { cut = λ k. rw e (cuts-of (moving s t (r .0) X lt) (mv .0) k); end = rw e Z }
+        let e1 : finishOn qs (frees l) l ≡ f ++ rescan f l =
+        finish-one L s G (recordOf (sector s l)) K qs (frees l) l source-q (λ p m z. is-freeing p (which p m) z) one-q ∙ rw (r .2) in
+        let e : plain l ≡ f ++ rescan f l = rec-some l one-q ∙ rw (k0, run-nil l) e1 in
+        record { steps = f; is = e; cut = cuts-of (moving s t (r .0) X lt) (mv .0); end = Z }
       where
         source-only : (p : Page) → Which p → p .sector ≡ s → p ≡ S
         source-only p (inl k) e = k
@@ -247,7 +246,7 @@ module _ (L : List ℕ) (s : ℕ) (G : Good L s) (small : (i : ℕ) → getD L i
     m-others u k = sector-kept u t (markFull t ∷ []) l k (mark-in t 0xFC)
 
     len-st : length (sector t l) ≡ 4096
-    len-st = length-sector t l ∙ (let z = room L s G small C l (D .len) t (T .here) in omega arith)
+    len-st = length-sector t l ∙ (let z = room L s G small l (D .len) t (T .here) in omega arith)
 
     m-at : sector t lf ≡ run (pageState 0 0xFC ∷ []) (sector t l)
     m-at = mark-sector t 0xFC l
@@ -262,10 +261,10 @@ module _ (L : List ℕ) (s : ℕ) (G : Good L s) (small : (i : ℕ) → getD L i
         rw m-at (items-same (sector t l) (run (pageState 0 0xFC ∷ []) (sector t l)) (marked-drop (sector t l) 0xFC (omega arith) 32 (omega arith)) (rw (y, mk)))
 
     m-side : Side L lf s
-    m-side = record { len = length-run (markFull t ∷ []) l ∙ D .len; kept = λ u h k e. m-others u (x-not u e) ∙ D .kept u h k e }
+    m-side = record { len = length-run (markFull t ∷ []) l ∙ D .len; kept = λ u h k e. m-others u (target-apart L l t q T u e) ∙ D .kept u h k e }
 
     m-source : Source L lf s
-    m-source = let z = m-others s (x-not s (G .page)) in record { state = rw z (R .state); seq = rw z (R .seq); items = rw z (R .items) }
+    m-source = let z = m-others s (target-apart L l t q T s (G .page)) in record { state = rw z (R .state); seq = rw z (R .seq); items = rw z (R .items) }
 
     m-target : Target L lf t q
     m-target =
@@ -278,7 +277,7 @@ module _ (L : List ℕ) (s : ℕ) (G : Good L s) (small : (i : ℕ) → getD L i
           seq = rw m-at (marked-sequence (sector t l) 0xFC (let z = len-st in omega arith) ∙ T .seq);
         }
 
-    part-full : noRoom (sector t l) ≡ true → Runs L s G small C l
+    part-full : noRoom (sector t l) ≡ true → Runs L s l
     part-full ne =
         let nn : noEmpty N ≡ true = room-is ∙ ne in
         let kn : keptAs N ≡ asFull N = rw nn in
@@ -286,19 +285,21 @@ module _ (L : List ℕ) (s : ℕ) (G : Good L s) (small : (i : ℕ) → getD L i
         let E : raws (itemsOf (sector t lf)) ≡ raws X = rw m-items (P .complete ne) in
         let which : (p : Page) → p ∈ qs → (p ≡ S) ⊎ ((p ≡ asFull N) ⊎ Old L s p) = (λ p m. ⊎-elim (λ k. inl k) (λ k. inr (⊎-elim (λ z. inl (z ∙ kn)) (λ z. inr z) k)) (from-q p m)) in
         let marked : TargetRecord Full q (asFull N .seen) = record { in-state = refl; has-sequence = W .has-sequence } in
-        let e2 : finishOn qs (frees l) lf ≡ erase s ∷ [] =
-        full-steps L s G small C lf t q m-side m-source m-target m-full E (recordOf (sector s l)) (asFull N .seen) K marked qs (frees l) which old-q source-q (rw kn at (O .itself)) one-q in
-        let e : plain l ≡ markFull t ∷ (erase s ∷ []) = rec-some l one-q ∙ rw (k0, e2) in
-        let Z = e-done L s G small C lf m-side t q m-target m-full E in
-        record { cut = λ k. rw e (cuts-of (full t q m-side m-source m-target m-full E) (Z .0) k); end = rw (e, run-one (markFull t) (erase s ∷ []) l) (Z .1) }
+        let e2 : finishOn qs (frees l) lf ≡ erase s ∷ rescan (erase s ∷ []) lf =
+        full-steps L s G small lf t q m-side m-source m-target m-full E (recordOf (sector s l)) (asFull N .seen) K marked qs (frees l) which old-q source-q
+        (rw kn at (O .itself)) one-q in
+        let f = markFull t ∷ (erase s ∷ []) in
+        let e : plain l ≡ markFull t ∷ (erase s ∷ rescan (markFull t ∷ (erase s ∷ [])) l) = rec-some l one-q ∙ rw (k0, e2, run-one (markFull t) (erase s ∷ []) l) in
+        let Z = e-done L s G small lf m-side t q m-target m-full E in
+        record { steps = f; is = e; cut = cuts-of (full t q m-side m-source m-target m-full E) (Z .0); end = rw (run-one (markFull t) (erase s ∷ []) l) (Z .1) }
       where
         cuts-of : State L s lf → State L s (run (erase s ∷ []) lf) → (k : ℕ) → State L s (run (take k (markFull t ∷ (erase s ∷ []))) l)
         cuts-of a b zero = rw (run-nil l) state
-        cuts-of a b (suc k) = rw (run-one (markFull t) (take k (erase s ∷ [])) l) (one-step L s G small C lf a b k)
+        cuts-of a b (suc k) = rw (run-one (markFull t) (take k (erase s ∷ [])) l) (one-step L s G small lf a b k)
 
-    pub part-runs : Runs L s G small C l
+    pub part-runs : Runs L s l
     part-runs = go (noRoom (sector t l)) refl
       where
-        go : (b : Bool) → noRoom (sector t l) ≡ b → Runs L s G small C l
+        go : (b : Bool) → noRoom (sector t l) ≡ b → Runs L s l
         go true e = part-full e
         go false e = part-again e

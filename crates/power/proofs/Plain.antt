@@ -69,10 +69,12 @@ finish-same zero ps fs l = refl
 finish-same (suc n) ps fs l = go (firstOf freeingPage ps) (λ qs gs m. finish-same n qs gs m)
   where
     go : (o : Option Page) → ((qs : List Page) (gs m : List ℕ) → untag (finishing n qs gs m) ≡ finish n qs gs m)
-        → untag (finishFrom (λ (x : Page). tag (Finish (x .sector)) ((round x ps fs l) .steps) ++ finishing n ((round x ps fs l) .list) ((round x ps fs l) .free) (run ((round x ps fs l) .steps) l)) o)
+        → untag
+        (finishFrom (λ (x : Page). tag (Finish (x .sector)) ((round x ps fs l) .steps) ++ finishing n ((round x ps fs l) .list) ((round x ps fs l) .free) (run ((round x ps fs l) .steps) l)) o)
         ≡ finishWith (λ (x : Page). (round x ps fs l) .steps ++ finish n ((round x ps fs l) .list) ((round x ps fs l) .free) (run ((round x ps fs l) .steps) l)) o
     go none ih = unfold finishFrom finishWith in refl
-    go (some x) ih = unfold finishFrom finishWith in (untag-tag (Finish (x .sector)) ((round x ps fs l) .steps) _ ∙ ap {B = List Step} (λ (r : List Step). (round x ps fs l) .steps ++ r) (ih _ _ _))
+    go (some x) ih =
+        unfold finishFrom finishWith in (untag-tag (Finish (x .sector)) ((round x ps fs l) .steps) _ ∙ ap {B = List Step} (λ (r : List Step). (round x ps fs l) .steps ++ r) (ih _ _ _))
 
 stages-same : (ps : List Page) (l : List ℕ) → untag (lastStages ps l) ≡ stages ps l
 unfolding lastStages stages

@@ -1,6 +1,6 @@
 -- All steps of stages 3 and 4 program words. Assumes nothing.
 use mathlib.Core.Logic.{inl, inr, ⊎-elim}
-use mathlib.Core.Bool.{Bool, _&&_, _||_, cond, false, true}
+use mathlib.Core.Bool.{Bool, _&&_, cond, false, true}
 use mathlib.Core.Option.{Option, none, some}
 use mathlib.Core.List.{List, [], flatMap}
 use Prim.Native.Nat.{_*_, _/_, suc, zero, ℕ}
@@ -9,14 +9,15 @@ use Rattle.flash.specs.Step.{Step, sector}
 use Rattle.item.specs.States.{statesDown, unmarking}
 use Rattle.item.specs.Mark.{markFull}
 use Rattle.item.specs.Erase.{erasing}
-use Rattle.lists.specs.Lists.{best, keep}
+use Rattle.lists.specs.Lists.{keep}
 use Rattle.lists.proofs.Maps.{flatMap-in, map-in}
 use Rattle.lists.proofs.Member.{_∈_, in-append}
 use Rattle.table.specs.declared.Page.{Page}
 use Rattle.table.specs.Table.{activePage}
-use Rattle.found.specs.Found.{Found, chunks, eraseAll, indexOf, newer, versionOf}
+use Rattle.found.specs.Found.{Found, chunks, eraseAll, versionOf}
 use Rattle.blobs.specs.Blobs.{blobSteps, bothSound, counting, dropCounting, dropVersion, judge, judgeWith, older, olderWith, sound, versionIn}
 use Rattle.duplicates.specs.Duplicates.{duplicateStage, duplicateSteps, lastMarks}
+use Rattle.power.proofs.Idle.{newestOf}
 use Rattle.power.proofs.Read.{noRoom}
 use Rattle.power.proofs.Plain.{stages}
 use Rattle.power.proofs.Zeros.{Prog}
@@ -68,13 +69,14 @@ older-prog fs g st m = one-of (bothSound fs (versionIn g 0) (versionIn g 0x80)) 
     two none v w k = absurd (unfold olderWith in k)
     two (some i) v w k = unfold olderWith in three (eqb (versionOf (i .raw)) v) v w k
 
-    one-of : (b : Bool) → st ∈ cond b (olderWith (versionIn g 0) (versionIn g 0x80) fs (best newer (keep (λ (x : Found). ((indexOf (versionIn g 0) (x .raw)) || (indexOf (versionIn g 0x80) (x .raw)))) fs))) [] → Prog st
-    one-of true k = two (best newer (keep (λ (x : Found). ((indexOf (versionIn g 0) (x .raw)) || (indexOf (versionIn g 0x80) (x .raw)))) fs)) (versionIn g 0) (versionIn g 0x80) k
+    one-of : (b : Bool) → st ∈ cond b (olderWith (versionIn g 0) (versionIn g 0x80) fs (newestOf g fs)) [] → Prog st
+    one-of true k = two (newestOf g fs) (versionIn g 0) (versionIn g 0x80) k
     one-of false k = absurd k
 
 blobs-prog : (fs : List Found) (st : Step) → st ∈ blobSteps fs → Prog st
 unfolding blobSteps
-blobs-prog fs st m = ⊎-elim (λ k. let g = flatMap-in (judge fs) _ st k in judge-prog fs (g .0) st (g .2)) (λ k. let g = flatMap-in (older fs) _ st k in older-prog fs (g .0) st (g .2)) (in-append st (flatMap (judge fs) _) (flatMap (older fs) _) m)
+blobs-prog fs st m =
+    ⊎-elim (λ k. let g = flatMap-in (judge fs) _ st k in judge-prog fs (g .0) st (g .2)) (λ k. let g = flatMap-in (older fs) _ st k in older-prog fs (g .0) st (g .2)) (in-append st (flatMap (judge fs) _) (flatMap (older fs) _) m)
 
 dup-prog : (fs : List Found) (st : Step) → st ∈ duplicateSteps fs → Prog st
 unfolding duplicateSteps
@@ -86,4 +88,6 @@ marks-prog ps l st m = let r = map-in (λ (p : Page). markFull (p .sector)) (kee
 
 pub stage-prog : (ps : List Page) (l : List ℕ) (st : Step) → st ∈ stages ps l → Prog st
 unfolding stages duplicateStage
-stage-prog ps l st m = ⊎-elim (λ k. blobs-prog _ st k) (λ k. ⊎-elim (λ w. dup-prog _ st w) (λ w. marks-prog _ _ st w) (in-append st (duplicateSteps _) (lastMarks _ _) k)) (in-append st (blobSteps _) _ m)
+stage-prog ps l st m =
+    ⊎-elim (λ k. blobs-prog _ st k) (λ k. ⊎-elim (λ w. dup-prog _ st w) (λ w. marks-prog _ _ st w) (in-append st (duplicateSteps _) (lastMarks _ _) k))
+    (in-append st (blobSteps _) _ m)

@@ -90,6 +90,11 @@ module _ (l : List ℕ) (R : Rest l) where
             no-freeing = λ p m. ⊎-elim (λ k. not-freeing p (k .0)) (λ k. let r : p ≡ a = k ∙ e in rw r (not-freeing a (i .0))) (K .from p m);
           }
 
+  -- recovery goes to its last stages at once
+  pub plain-rest : plain l ≡ orderOn (pages l) l
+  unfolding plain onward orderOn
+  plain-rest = let z = freeings-none (ordered (pages l)) (rest-order .no-freeing) in rw z
+
   module _ (C : Calm (λ (f : List ℕ → ℕ). total f l)) where
     calm-o : Calm (λ (f : List ℕ → ℕ). tot f (found (ordered (pages l)) l))
     calm-o = calm-same _ (λ (f : List ℕ → ℕ). total f l) (λ f. found-total f (ordered (pages l)) l ∙ rest-order .sums (walked f l) ∙ sym (total-walked f l)) C
@@ -106,12 +111,6 @@ module _ (l : List ℕ) (R : Rest l) where
     unfolding orderOn run
     order-idle = rw (rest-order .no-step) no-stages
 
-    pub plain-idle : plain l ≡ []
-    unfolding plain run onward
-    plain-idle =
-        let z : freeings (ordered (pages l)) ≡ 0 = freeings-none (ordered (pages l)) (rest-order .no-freeing) in
-        rw (z, rest-order .no-step) no-stages
-
 -- an image with neither Active nor Freeing page on which recovery makes no step
 pub no-kept : (l : List ℕ) → ((p : Page) → p ∈ pages l → activePage p ≡ false) → kept (pages l) ≡ none
 unfolding kept
@@ -126,7 +125,8 @@ stage-of : (l : List ℕ) → ordering (pages l) ≡ [] → ordered (pages l) �
 unfolding plain run onward
 stage-of l a o z e = rw (a, o, z) at e
 
-pub calm-stable : (l : List ℕ) → ((u : ℕ) → u < sectorsOf l → active (stateOf (sector u l)) ≡ false) → ((u : ℕ) → u < sectorsOf l → freeing (stateOf (sector u l)) ≡ false)
+pub calm-stable : (l : List ℕ) → ((u : ℕ) → u < sectorsOf l → active (stateOf (sector u l)) ≡ false)
+    → ((u : ℕ) → u < sectorsOf l → freeing (stateOf (sector u l)) ≡ false)
     → Tidy (found (pages l) l) → plain l ≡ [] → Calm (λ (f : List ℕ → ℕ). total f l)
 calm-stable l na nf t e =
     let R : Rest l = record { no-freeing = nf; room = λ u h a. absurd (true≢false a (na u h)); only = λ u v hu hv a b. absurd (true≢false a (na u hu)) } in

@@ -12,7 +12,6 @@ use borrow.Author.Tests.{eqb-true}
 use Rattle.word.specs.Number.{le, part}
 use Rattle.word.proofs.Bytes.{le-part, part-byte}
 use Rattle.entry.specs.States.{countState, empty, stateAt}
-use Rattle.entry.proofs.Counting.{count-ext}
 use Rattle.page.specs.declared.state.PageState.{PageState}
 use Rattle.page.specs.declared.state.PageState.the-variants.{Active, Blank, Corrupt, Freeing, Full}
 use Rattle.page.specs.State.{allOnes, headerRight, isFree, sequenceOf, stateOf, wordState}
@@ -51,9 +50,6 @@ module _ (T T′ : List ℕ) (e : drop 32 T′ ≡ drop 32 T) where
   unfolding walk
   walk-same zero i = refl
   walk-same (suc n) i = rw (item-same i, at-same i, walk-same n _)
-
-  pub room-same : noRoom T′ ≡ noRoom T
-  room-same = ap (λ (k : ℕ). eqb k 0) (count-ext empty (stateAt T′) (stateAt T) 126 (λ j h. state-same j))
 
   pub items-same : isFree (stateOf T′) ≡ isFree (stateOf T) → itemsOf T′ ≡ itemsOf T
   unfolding itemsOf
@@ -99,7 +95,8 @@ stateByte Active = 0xFE
 stateByte Full = 0xFC
 stateByte Freeing = 0xF8
 
-state-code : (b : ℕ) (x y z : Bool) → eqb b 0xFE ≡ x → eqb b 0xFC ≡ y → eqb b 0xF8 ≡ z → (M : PageState) → isFree M ≡ false → cond x Active (cond y Full (cond z Freeing Corrupt)) ≡ M → b ≡ stateByte M
+state-code : (b : ℕ) (x y z : Bool) → eqb b 0xFE ≡ x → eqb b 0xFC ≡ y → eqb b 0xF8 ≡ z → (M : PageState) → isFree M ≡ false
+    → cond x Active (cond y Full (cond z Freeing Corrupt)) ≡ M → b ≡ stateByte M
 state-code b true y z p q r M f e = rw (← e) (eqb-true b 0xFE p)
 state-code b false true z p q r M f e = rw (← e) (eqb-true b 0xFC q)
 state-code b false false true p q r M f e = rw (← e) (eqb-true b 0xF8 r)

@@ -32,19 +32,16 @@ use Rattle.answer.specs.declared.Answer.the-variants.{ActiveStands, NotReclaima
 use Rattle.reclaim.specs.declared.plan.Plan.the-variants.{Clear, Move, Refuse}
 use Rattle.reclaim.specs.Reclaim.{candidate, chosen, closed, next, plan, planSteps, planTo, planWith, reclaiming}
 use Rattle.power.specs.Demand3.{Store}
-use Rattle.power.proofs.Runs.{e-gone}
+use Rattle.power.proofs.Runs.{run-one}
 use Rattle.power.proofs.Unmade.{move-runs}
 use Rattle.power.proofs.Finish.{Seq}
 use Rattle.power.proofs.Read.{items-same, marked-drop, marked-sequence, to-freeing}
 use Rattle.power.proofs.AllErased.{items-none}
+use Rattle.power.proofs.Ends.{e-gone}
 use Rattle.power.proofs.State.{AllFree, Good, Side, Source, State}
-use Rattle.power.proofs.Premises.{calm-items, good}
+use Rattle.power.proofs.Premises.{good}
 use Rattle.power.proofs.Items.{listed-items}
 use Rattle.power.proofs.Partly.{mark-sector}
-
-run-first : (e : Step) (ss : List Step) (l : List ℕ) → run (e ∷ ss) l ≡ run ss (run (e ∷ []) l)
-unfolding run
-run-first e ss l = refl
 
 module _ (L : List ℕ) (S : Store L) where
   abbrev n : ℕ
@@ -71,7 +68,7 @@ module _ (L : List ℕ) (S : Store L) where
     erased-reach e zero = inl (zero-cut (erase s ∷ []))
     erased-reach e (suc c) =
         rw (take-nil {A = Step} c)
-        (inr (s, G, e-gone L s G (S .bytes) (calm-items L S) L (record { len = refl; kept = λ u a b d. refl }) (λ u a f. f) (items-none (sector s L) e) .0))
+        (inr (s, G, e-gone L s G (S .bytes) L (record { len = refl; kept = λ u a b d. refl }) (λ u a f. f) (items-none (sector s L) e) .0))
 
     -- else it is marked Freeing
     abbrev l1 : List ℕ
@@ -119,8 +116,8 @@ module _ (L : List ℕ) (S : Store L) where
         let f = frees-in L t (last-in (frees L) t e) in
         let ne : (t ≡ s → ⊥) = (λ k. true≢false (rw k at (f .1)) p) in
         let i : itemsIn s l1 ≡ itemsOf (sector s L) = listed-items s l1 (rw (source .state)) ∙ source .items in
-        let mv = move-runs L s G (S .bytes) (calm-items L S) l1 side source t (f .0) (f .1) all-free t (next (pages L)) (f .0) (rw (others t ne) (f .1)) next-above in
-        rw (i, run-first (markFreeing s) (take c (moving s t (next (pages L)) (itemsOf (sector s L)) l1)) L) (inr (s, G, mv .0 c))
+        let mv = move-runs L s G (S .bytes) l1 side source t (f .0) (f .1) all-free t (next (pages L)) (f .0) (rw (others t ne) (f .1)) next-above in
+        rw (i, run-one (markFreeing s) (take c (moving s t (next (pages L)) (itemsOf (sector s L)) l1)) L) (inr (s, G, mv .0 c))
 
     to-reach : (c : ℕ) (o : Option ℕ) → getLast? (frees L) ≡ o → Reach (run (take c (planSteps L (planTo (pages L) s o))) L)
     unfolding planTo planSteps
@@ -162,6 +159,7 @@ module _ (L : List ℕ) (S : Store L) where
       none-active true = nothing c
       none-active false = page (chosen (pages L)) refl
 
-      whole : (b : Bool) → Reach (run (take c (cond b (planSteps L (cond (some-of activePage (pages L)) (Refuse ActiveStands) (planWith (pages L) (frees L) (chosen (pages L))))) [])) L)
+      whole : (b : Bool)
+          → Reach (run (take c (cond b (planSteps L (cond (some-of activePage (pages L)) (Refuse ActiveStands) (planWith (pages L) (frees L) (chosen (pages L))))) [])) L)
       whole true = none-active (some-of activePage (pages L))
       whole false = nothing c

@@ -1,31 +1,20 @@
--- What is to hold of recovery on an image: every cut of its steps leads to one of the images again, and the end holds the items of the store. Where there
--- is nothing to do, and where the source is erased. Assumes nothing.
+-- What is to hold of recovery on an image, and where there is nothing to finish. Assumes nothing.
 use mathlib.Core.Path.{_∙_, _≡_, refl}
-use mathlib.Core.Logic.{inr}
-use mathlib.Core.Bool.{true}
 use mathlib.Core.Option.{none}
 use mathlib.Core.List.{List, [], _++_, _∷_, append-nil}
-use Prim.Native.Nat.{_*_, _+_, _<_, _≤_, suc, zero, ℕ}
-use native.Mathlib.Omega.{arith}
-use lib.ListN.{getD, length, take}
+use Prim.Native.Nat.{ℕ}
+use lib.ListN.{take}
 use lib.Seq.{take-nil}
-use Rattle.page.specs.declared.state.PageState.the-variants.{Full}
-use Rattle.page.specs.State.{isFree, stateOf}
-use Rattle.page.specs.Walk.{Laid, itemsOf}
-use Rattle.flash.specs.Step.{Step, erase, run, sector}
-use Rattle.flash.proofs.Frame.{length-run, sector-kept}
-use Rattle.lists.proofs.Member.{true≢false}
-use Rattle.table.specs.Table.{frees, pages, sectorsOf}
+use Rattle.flash.specs.Step.{Step, run}
+use Rattle.table.specs.Table.{frees, pages}
 use Rattle.order.specs.Order.{kept, ordered, ordering}
 use Rattle.recover.specs.Recover.{freeings}
 use Rattle.power.specs.Demand3.{total}
-use Rattle.power.proofs.State.{AllFree, Good, Settled, Side, State, Target, done, gone}
-use Rattle.power.proofs.Quiet.{calm-same, order-idle, order-none, plain-idle}
+use Rattle.power.proofs.Quiet.{calm-same, order-idle, order-none, plain-rest}
 use Rattle.power.proofs.Idle.{Calm}
-use Rattle.power.proofs.Move.{blank-free, erase-in, erased-blank}
 use Rattle.power.proofs.Plain.{finishOn, onward, orderOn, plain}
-use Rattle.power.proofs.Shape.{raws}
-use Rattle.power.proofs.Steps.{Final, done-final, gone-final}
+use Rattle.power.proofs.State.{State}
+use Rattle.power.proofs.Steps.{Final}
 
 -- the list of steps where nothing is Active, or one page is
 pub rec-none : (l : List ℕ) → kept (pages l) ≡ none → freeings (pages l) ≡ 1 → plain l ≡ finishOn (pages l) (frees l) l
@@ -44,74 +33,31 @@ pub run-nil : (l : List ℕ) → run [] l ≡ l
 unfolding run
 run-nil l = refl
 
-module _ (L : List ℕ) (s : ℕ) (G : Good L s) (small : (i : ℕ) → getD L i 0 < 256) (C : Calm (λ (f : List ℕ → ℕ). total f L)) where
-  abbrev n : ℕ
-  n = sectorsOf L
+-- what comes after the steps f of the finish stage: the scan, and stage 1 again
+abbrev pub rescan : List Step → List ℕ → List Step
+rescan f l = orderOn (pages (run f l)) (run f l)
 
-  abbrev X : List Laid
-  X = itemsOf (sector s L)
+-- the steps up to the end of the finish stage: every cut of them is one of the images, and at their end the items are those of the store
+pub record Runs (L : List ℕ) (s : ℕ) (l : List ℕ) : Type 0 where
+  pub steps : List Step
+  pub is : plain l ≡ steps ++ rescan steps l
+  pub cut : (k : ℕ) → State L s (run (take k steps) l)
+  pub end : Final L (run steps l)
 
-  final-calm : (m : List ℕ) → Final L m → Calm (λ (f : List ℕ → ℕ). total f m)
-  final-calm m F = calm-same (λ (f : List ℕ → ℕ). total f m) (λ (f : List ℕ → ℕ). total f L) (F .totals) C
-
-  pub record Runs (l : List ℕ) : Type 0 where
-    pub cut : (k : ℕ) → State L s (run (take k (plain l)) l)
-    pub end : Final L (run (plain l) l)
-
-  -- nothing to do
-  pub idle-runs : (l : List ℕ) → State L s l → Final L l → Runs l
-  idle-runs l S F =
-      let e = plain-idle l (F .rest) (final-calm l F) in
-      record { cut = λ k. rw (e, take-nil {A = Step} k, run-nil l) S; end = rw (e, run-nil l) F }
-
-  -- the tail after the finish stage is idle
-  pub tail-idle : (l : List ℕ) (f : List Step) → Final L (run f l) → f ++ orderOn (pages (run f l)) (run f l) ≡ f
-  tail-idle l f F = rw (order-idle (run f l) (F .rest) (final-calm (run f l) F)) (append-nil f)
-
-  pub room : (l : List ℕ) → length l ≡ length L → (u : ℕ) → u < n → u * 4096 + 4096 ≤ length l
-  room l e u h = omega arith
-
-  -- ---- the source is erased
-  module _ (l : List ℕ) (D : Side L l s) where
-    abbrev le : List ℕ
-    le = run (erase s ∷ []) l
-
-    e-others : (u : ℕ) → (u ≡ s → ⊥) → sector u le ≡ sector u l
-    e-others u k = sector-kept u s (erase s ∷ []) l k (erase-in s)
-
-    e-side : Side L le s
-    e-side = record { len = length-run (erase s ∷ []) l ∙ D .len; kept = λ u h k e. e-others u k ∙ D .kept u h k e }
-
-    e-free : isFree (stateOf (sector s le)) ≡ true
-    e-free = rw (erased-blank s l (room l (D .len) s (G .here))) blank-free
-
-    not-s : (u : ℕ) → isFree (stateOf (sector u L)) ≡ true → u ≡ s → ⊥
-    not-s u f k = true≢false (rw k at f) (G .page)
-
-    e-all : AllFree L l → AllFree L le
-    e-all F u h f = rw (e-others u (not-s u f)) (F u h f)
-
-    e-target : (t q : ℕ) → Target L l t q → Target L le t q
-    e-target t q T = record {
-      here = T .here;
-      was = T .was;
-      above = T .above;
-      bound = T .bound;
-      rest = λ u h k f. rw (e-others u (not-s u f)) (T .rest u h k f);
-      seq = rw (e-others t (not-s t (T .was))) (T .seq);
+-- nothing to finish
+pub idle-runs : (L : List ℕ) (s : ℕ) (l : List ℕ) → State L s l → Final L l → Runs L s l
+idle-runs L s l S F =
+    record {
+      steps = [];
+      is = plain-rest l (F .rest) ∙ rw (run-nil l);
+      cut = λ k. rw (take-nil {A = Step} k, run-nil l) S;
+      end = rw (run-nil l) F;
     }
 
-    pub e-gone : AllFree L l → X ≡ [] → State L s le × Final L le
-    e-gone F x = (gone e-side e-free (e-all F) x, gone-final L s G small le e-side e-free (e-all F) x)
-
-    pub e-done : (t q : ℕ) → Target L l t q → stateOf (sector t l) ≡ Full → raws (itemsOf (sector t l)) ≡ raws X → State L s le × Final L le
-    e-done t q T m e =
-        let z = e-others t (not-s t (T .was)) in
-        let W : Settled (sector t le) = inr (rw z m) in
-        let E : raws (itemsOf (sector t le)) ≡ raws X = rw z e in
-        (done t q e-side e-free (e-target t q T) W E, done-final L s G small le t q e-side e-free (e-target t q T) W E)
-
-  -- one step more
-  pub one-step : (l : List ℕ) → State L s l → State L s (run (erase s ∷ []) l) → (k : ℕ) → State L s (run (take k (erase s ∷ [])) l)
-  one-step l a b zero = rw (run-nil l) a
-  one-step l a b (suc k) = rw (take-nil {A = Step} k) b
+-- where the items of the store are calm, that is all
+pub calm-runs : (L : List ℕ) (s : ℕ) → Calm (λ (f : List ℕ → ℕ). total f L) → (l : List ℕ) (R : Runs L s l) → plain l ≡ R .steps
+calm-runs L s C l R =
+    let F = R .end in
+    let m = run (R .steps) l in
+    let c = calm-same (λ (f : List ℕ → ℕ). total f (run (R .steps) l)) (λ (f : List ℕ → ℕ). total f L) (F .totals) C in
+    R .is ∙ rw (order-idle (run (R .steps) l) (F .rest) c) (append-nil (R .steps))

@@ -53,7 +53,8 @@ laid-le : (T : List ℕ) (j : ℕ) (rs : List (List ℕ)) (p : ℕ) → Rows T j
 laid-le T j [] p e = omega arith
 laid-le T j (r ∷ rs) p e = let a = laid-le T (j + spanOf r) rs p (e .2) in omega arith
 
-pub laid-keep : (T T′ : List ℕ) (p : ℕ) → length T′ ≡ length T → ((e : ℕ) → e < p → stateAt T′ e ≡ stateAt T e) → ((i : ℕ) → 64 ≤ i → i < 64 + p * 32 → getD T′ i 0 ≡ getD T i 0)
+pub laid-keep : (T T′ : List ℕ) (p : ℕ) → length T′ ≡ length T → ((e : ℕ) → e < p → stateAt T′ e ≡ stateAt T e)
+    → ((i : ℕ) → 64 ≤ i → i < 64 + p * 32 → getD T′ i 0 ≡ getD T i 0)
     → (j : ℕ) (rs : List (List ℕ)) → AllFine rs → Rows T j rs p → Rows T′ j rs p
 laid-keep T T′ p n st by j [] f e = e
 laid-keep T T′ p n st by j (r ∷ rs) f e =
@@ -64,7 +65,8 @@ laid-keep T T′ p n st by j (r ∷ rs) f e =
       laid-keep T T′ p n st by (j + spanOf r) rs (f .1) (e .2),
     )
 
-pub laid-snoc : (T : List ℕ) (j : ℕ) (rs : List (List ℕ)) (p : ℕ) (r : List ℕ) → Rows T j rs p → stateAt T p ≡ written → part T (64 + p * 32) (spanOf r * 32) ≡ r → Rows T j (rs ++ (r ∷ [])) (p + spanOf r)
+pub laid-snoc : (T : List ℕ) (j : ℕ) (rs : List (List ℕ)) (p : ℕ) (r : List ℕ) → Rows T j rs p → stateAt T p ≡ written
+    → part T (64 + p * 32) (spanOf r * 32) ≡ r → Rows T j (rs ++ (r ∷ [])) (p + spanOf r)
 laid-snoc T j [] p r e a b = (rw e a, rw e b, rw e)
 laid-snoc T j (x ∷ rs) p r e a b = (e .0, e .1, laid-snoc T (j + spanOf x) rs p r (e .2) a b)
 
@@ -81,7 +83,8 @@ unfolding walk
 walk-empty T zero i h = refl
 walk-empty T (suc n) i h = rw (empty-item T i (h i (omega arith))) (walk-empty T n (i + 1) (λ e a. h e (omega arith)))
 
-pub walk-laid : (T : List ℕ) (p n j : ℕ) (rs : List (List ℕ)) → 126 ≤ j + n → p ≤ 126 → ((e : ℕ) → p ≤ e → e < 126 → stateAt T e ≡ empty) → AllFine rs → Rows T j rs p → raws (walk T n j) ≡ rs
+pub walk-laid : (T : List ℕ) (p n j : ℕ) (rs : List (List ℕ)) → 126 ≤ j + n → p ≤ 126 → ((e : ℕ) → p ≤ e → e < 126 → stateAt T e ≡ empty) → AllFine rs
+    → Rows T j rs p → raws (walk T n j) ≡ rs
 unfolding walk
 walk-laid T p n j [] k h em f e = rw (walk-empty T n j (λ i a. em i (omega arith)))
 walk-laid T p zero j (r ∷ rs) k h em f e =
@@ -136,7 +139,8 @@ module _ (q : ℕ) (T : List ℕ) (ys : List (List ℕ)) (p : ℕ) (H : Shape q 
 
   -- entry 125 is Empty unless p is 126
   pub shape-room : p < 126 → noRoom T ≡ false
-  shape-room h = ne-eqb (countState T empty) 0 (λ (e : countState T empty ≡ 0). let a = count-ge (stateAt T) empty 126 125 (omega arith) (H .empty-from 125 (omega arith) (omega arith)) in omega arith)
+  shape-room h =
+      ne-eqb (countState T empty) 0 (λ (e : countState T empty ≡ 0). let a = count-ge (stateAt T) empty 126 125 (omega arith) (H .empty-from 125 (omega arith) (omega arith)) in omega arith)
 
 -- ---- steps that keep a shape
 -- outside the header, the states and the laid entries

@@ -65,7 +65,8 @@ pub data State (L : List ℕ) (s : ℕ) (l : List ℕ) : Type 0 where
   junk : Side L l s → Source L l s → (t : ℕ) → t < sectorsOf L → isFree (stateOf (sector t L)) ≡ true → AllFree L l → State L s l
   partly : (t q : ℕ) → Side L l s → Source L l s → Target L l t q → stateOf (sector t l) ≡ Active → Partial (sector s L) (sector t l) → State L s l
   full : (t q : ℕ) → Side L l s → Source L l s → Target L l t q → stateOf (sector t l) ≡ Full → raws (itemsOf (sector t l)) ≡ raws (itemsOf (sector s L)) → State L s l
-  done : (t q : ℕ) → Side L l s → isFree (stateOf (sector s l)) ≡ true → Target L l t q → Settled (sector t l) → raws (itemsOf (sector t l)) ≡ raws (itemsOf (sector s L)) → State L s l
+  done : (t q : ℕ) → Side L l s → isFree (stateOf (sector s l)) ≡ true → Target L l t q → Settled (sector t l)
+      → raws (itemsOf (sector t l)) ≡ raws (itemsOf (sector s L)) → State L s l
   gone : Side L l s → isFree (stateOf (sector s l)) ≡ true → AllFree L l → itemsOf (sector s L) ≡ [] → State L s l
 
 -- what is known of the store at the start
@@ -77,6 +78,10 @@ pub record Good (L : List ℕ) (s : ℕ) : Type 0 where
   pub unique : (x : List ℕ) → total (λ (r : List ℕ). one (sameBytes (nameOf r) x)) L ≤ 1
 
 -- ---- the page lists: a page is the source, the target, or an old page
+
+-- a target was free, so it is none of the pages of the store
+pub target-apart : (L l : List ℕ) (t q : ℕ) → Target L l t q → (u : ℕ) → isFree (stateOf (sector u L)) ≡ false → u ≡ t → ⊥
+target-apart L l t q T u e k = true≢false (T .was) (rw k at e)
 
 -- the record of the source, and of a target in the state M
 pub record SourceRecord (L : List ℕ) (s : ℕ) (r : PageRecord) : Type 0 where
@@ -132,7 +137,8 @@ module _ (L : List ℕ) (s : ℕ) where
       split : (p : Page) → p ∈ pages l → ((p .sector ≡ s) ⊎ Old p) ⊎ (isFree (stateOf (sector (p .sector) L)) ≡ true)
       split p m = go (eqb (p .sector) s) refl (isFree (stateOf (sector (p .sector) L))) refl
         where
-          go : (a : Bool) → eqb (p .sector) s ≡ a → (b : Bool) → isFree (stateOf (sector (p .sector) L)) ≡ b → ((p .sector ≡ s) ⊎ Old p) ⊎ (isFree (stateOf (sector (p .sector) L)) ≡ true)
+          go : (a : Bool) → eqb (p .sector) s ≡ a → (b : Bool) → isFree (stateOf (sector (p .sector) L)) ≡ b
+              → ((p .sector ≡ s) ⊎ Old p) ⊎ (isFree (stateOf (sector (p .sector) L)) ≡ true)
           go true q b r = inl (inl (eqb-true (p .sector) s q))
           go false q false r = inl (inr (page-of p m r (eqb-false (p .sector) s q)))
           go false q true r = inr r
@@ -158,10 +164,12 @@ module _ (L : List ℕ) (s : ℕ) where
       unfolding freeings
       freeings-one S h =
           sum-pages l (λ (p : Page). one (freeingPage p))
-          ∙ sumTo-at (λ (u : ℕ). cond (isFree (stateOf (sector u l))) 0 (one (freeingPage (pageAt u l)))) (sectorsOf l) s (rw n-same (G .here)) (λ u k ne. zero-at u k ne (isFree (stateOf (sector u l))) refl (freeingPage (pageAt u l)) refl)
+          ∙ sumTo-at (λ (u : ℕ). cond (isFree (stateOf (sector u l))) 0 (one (freeingPage (pageAt u l)))) (sectorsOf l) s (rw n-same (G .here))
+          (λ u k ne. zero-at u k ne (isFree (stateOf (sector u l))) refl (freeingPage (pageAt u l)) refl)
           ∙ rw (S .state, source-record S .is-freeing)
         where
-          zero-at : (u : ℕ) → u < sectorsOf l → (u ≡ s → ⊥) → (a : Bool) → isFree (stateOf (sector u l)) ≡ a → (b : Bool) → freeingPage (pageAt u l) ≡ b → cond a 0 (one b) ≡ 0
+          zero-at : (u : ℕ) → u < sectorsOf l → (u ≡ s → ⊥) → (a : Bool) → isFree (stateOf (sector u l)) ≡ a → (b : Bool) → freeingPage (pageAt u l) ≡ b
+              → cond a 0 (one b) ≡ 0
           zero-at u k ne true e b f = refl
           zero-at u k ne false e false f = refl
           zero-at u k ne false e true f = absurd (ne (ap {B = ℕ} (λ (p : Page). p .sector) (h (pageAt u l) (in-pages l u k e) f)))

@@ -22,11 +22,11 @@ use Rattle.table.specs.Table.{active, freeing, frees, sectorsOf}
 use Rattle.table.proofs.Sectors.{sumTo, sumTo-ext, sumTo-one-le, sumTo-two, sumTo-two-le}
 use Rattle.table.proofs.Pages.{length-frees}
 use Rattle.power.specs.Demand3.{total}
-use Rattle.power.proofs.State.{AllFree, Good, Partial, Settled, Side, Source, State, Target, done, full, junk, partly}
+use Rattle.power.proofs.State.{AllFree, Good, Partial, Settled, Side, Source, State, Target, done, full, junk, partly, target-apart}
+use Rattle.power.proofs.Move.{Cut, blank-free, ended, going, ready, unmade}
 use Rattle.power.proofs.Quiet.{Rest}
 use Rattle.power.proofs.Finish.{Seq}
 use Rattle.power.proofs.Read.{noRoom}
-use Rattle.power.proofs.Move.{Cut, blank-free, ended, going, ready, unmade}
 use Rattle.power.proofs.Shape.{AllFine, raws}
 use Rattle.power.proofs.Items.{free-none}
 use Rattle.power.proofs.Copies.{going-active, going-partial, going-seq, items-fine, part-small, ready-items, ready-seq, ready-settled, spans}
@@ -99,15 +99,19 @@ module _ (L : List ℕ) (s : ℕ) (G : Good L s) (small : (i : ℕ) → getD L i
           free-at : (u : ℕ) → u < n → isFree (stateOf (sector u L)) ≡ true → (b : Bool) → eqb u t ≡ b → isFree (stateOf (sector u m)) ≡ true
           free-at u h e true k = rw (eqb-true u t k) f
           free-at u h e false k = rw (o u (eqb-false u t k)) (F u h e)
-      cut-state (going o g) = partly t q (side-of (λ u a b. o u a)) (source-of o) (target-of (λ u a b. o u a) (going-seq q X (sector t m) q-small g)) (going-active q X (sector t m) g) (going-partial q X (sector t m) (sector s L) refl g)
+      cut-state (going o g) =
+          partly t q (side-of (λ u a b. o u a)) (source-of o) (target-of (λ u a b. o u a) (going-seq q X (sector t m) q-small g))
+          (going-active q X (sector t m) g) (going-partial q X (sector t m) (sector s L) refl g)
       cut-state (ready o r) = ⊎-elim
           (λ k. partly t q (side-of (λ u a b. o u a)) (source-of o) (target-of (λ u a b. o u a) (ready-seq q X (sector t m) q-small r)) (k .0) (all-there (ready-items q X (sector t m) r)))
           (λ k. full t q (side-of (λ u a b. o u a)) (source-of o) (target-of (λ u a b. o u a) (ready-seq q X (sector t m) q-small r)) k (ready-items q X (sector t m) r))
           (ready-settled q X (sector t m) r)
         where
           all-there : raws (itemsOf (sector t m)) ≡ raws X → Partial (sector s L) (sector t m)
-          all-there e = record { sub = λ y k. map-in (λ (i : Laid). i .raw) X (y .raw) (rw e at (in-map (λ (i : Laid). i .raw) (itemsOf (sector t m)) y k)); complete = λ z. e }
-      cut-state (ended o r b) = done t q (side-of o) (rw b blank-free) (target-of o (ready-seq q X (sector t m) q-small r)) (ready-settled q X (sector t m) r) (ready-items q X (sector t m) r)
+          all-there e =
+              record { sub = λ y k. map-in (λ (i : Laid). i .raw) X (y .raw) (rw e at (in-map (λ (i : Laid). i .raw) (itemsOf (sector t m)) y k)); complete = λ z. e }
+      cut-state (ended o r b) =
+          done t q (side-of o) (rw b blank-free) (target-of o (ready-seq q X (sector t m) q-small r)) (ready-settled q X (sector t m) r) (ready-items q X (sector t m) r)
 
   -- ---- the images at the end
   pub active-old : (m : List ℕ) → Side L m s → (u : ℕ) → u < n → (u ≡ s → ⊥) → isFree (stateOf (sector u L)) ≡ false → stateOf (sector u m) ≡ Full
@@ -123,22 +127,27 @@ module _ (L : List ℕ) (s : ℕ) (G : Good L s) (small : (i : ℕ) → getD L i
   free-from : (m : List ℕ) → length m ≡ length L → sumTo (freeAt L) n ≤ sumTo (freeAt m) n → length (frees L) ≤ length (frees m)
   free-from m e h = let a = length-frees L in let b = length-frees m ∙ ap (λ (k : ℕ). sumTo (freeAt m) (k / 4096)) e in omega arith
 
-  module _ (m : List ℕ) (t q : ℕ) (D : Side L m s) (fs : isFree (stateOf (sector s m)) ≡ true) (T : Target L m t q) (W : Settled (sector t m)) (E : raws (itemsOf (sector t m)) ≡ raws X) where
+  module _ (m : List ℕ) (t q : ℕ) (D : Side L m s) (fs : isFree (stateOf (sector s m)) ≡ true) (T : Target L m t q) (W : Settled (sector t m))
+      (E : raws (itemsOf (sector t m)) ≡ raws X) where
     abbrev nm : sectorsOf m ≡ n
     nm = ap (λ (k : ℕ). k / 4096) (D .len)
 
     -- each sector is the source, the target, an old page, or free as it was
-    which : (u : ℕ) → u < n → (u ≡ s) ⊎ ((u ≡ t) ⊎ (((u ≡ s → ⊥) × (sector u m ≡ sector u L) × (stateOf (sector u m) ≡ Full)) ⊎ ((isFree (stateOf (sector u m)) ≡ true) × (isFree (stateOf (sector u L)) ≡ true))))
+    which : (u : ℕ) → u < n
+        → (u ≡ s) ⊎
+        ((u ≡ t) ⊎ (((u ≡ s → ⊥) × (sector u m ≡ sector u L) × (stateOf (sector u m) ≡ Full)) ⊎ ((isFree (stateOf (sector u m)) ≡ true) × (isFree (stateOf (sector u L)) ≡ true))))
     which u h = go (eqb u s) refl (eqb u t) refl (isFree (stateOf (sector u L))) refl
       where
-        go : (a : Bool) → eqb u s ≡ a → (b : Bool) → eqb u t ≡ b → (c : Bool) → isFree (stateOf (sector u L)) ≡ c → (u ≡ s) ⊎ ((u ≡ t) ⊎ (((u ≡ s → ⊥) × (sector u m ≡ sector u L) × (stateOf (sector u m) ≡ Full)) ⊎ ((isFree (stateOf (sector u m)) ≡ true) × (isFree (stateOf (sector u L)) ≡ true))))
+        go : (a : Bool) → eqb u s ≡ a → (b : Bool) → eqb u t ≡ b → (c : Bool) → isFree (stateOf (sector u L)) ≡ c
+            → (u ≡ s) ⊎
+            ((u ≡ t) ⊎ (((u ≡ s → ⊥) × (sector u m ≡ sector u L) × (stateOf (sector u m) ≡ Full)) ⊎ ((isFree (stateOf (sector u m)) ≡ true) × (isFree (stateOf (sector u L)) ≡ true))))
         go true x b y c z = inl (eqb-true u s x)
         go false x true y c z = inr (inl (eqb-true u t y))
         go false x false y false z = inr (inr (inl (eqb-false u s x, D .kept u h (eqb-false u s x) z, active-old m D u h (eqb-false u s x) z)))
         go false x false y true z = inr (inr (inr (T .rest u h (eqb-false u t y) z, z)))
 
     s-not-t : s ≡ t → ⊥
-    s-not-t k = true≢false (T .was) (rw k at (G .page))
+    s-not-t k = target-apart L m t q T s (G .page) k
 
     at-s : (u : ℕ) → u ≡ s → isFree (stateOf (sector u m)) ≡ true
     at-s u k = ap (λ (v : ℕ). isFree (stateOf (sector v m))) k ∙ fs
@@ -154,7 +163,8 @@ module _ (L : List ℕ) (s : ℕ) (G : Good L s) (small : (i : ℕ) → getD L i
 
     freeing-no : (u : ℕ) → u < n → freeing (stateOf (sector u m)) ≡ false
     freeing-no u h =
-        ⊎-elim (λ k. free-neither (stateOf (sector u m)) (at-s u k) .1) (λ k. ⊎-elim (λ z. at-t u z W) (λ z. ⊎-elim (λ w. rw (w .2)) (λ w. free-neither (stateOf (sector u m)) (w .0) .1) z) k) (which u h)
+        ⊎-elim (λ k. free-neither (stateOf (sector u m)) (at-s u k) .1)
+        (λ k. ⊎-elim (λ z. at-t u z W) (λ z. ⊎-elim (λ w. rw (w .2)) (λ w. free-neither (stateOf (sector u m)) (w .0) .1) z) k) (which u h)
 
     pub done-final : Final L m
     done-final = record {
@@ -173,10 +183,13 @@ module _ (L : List ℕ) (s : ℕ) (G : Good L s) (small : (i : ℕ) → getD L i
         room-t u k e (inr w) = let y : stateOf (sector u m) ≡ Full = ap (λ (v : ℕ). stateOf (sector v m)) k ∙ w in absurd (true≢false e (rw y))
 
         same-at : (f : List ℕ → ℕ) (u : ℕ) → u < n → (u ≡ s → ⊥) → (u ≡ t → ⊥) → onSector f m u ≡ onSector f L u
-        same-at f u h a b = ⊎-elim (λ k. absurd (a k)) (λ k. ⊎-elim (λ z. absurd (b z)) (λ z. ⊎-elim (λ w. rw (w .1)) (λ w. free-zero f m u (w .0) ∙ sym (free-zero f L u (w .1))) z) k) (which u h)
+        same-at f u h a b =
+            ⊎-elim (λ k. absurd (a k))
+            (λ k. ⊎-elim (λ z. absurd (b z)) (λ z. ⊎-elim (λ w. rw (w .1)) (λ w. free-zero f m u (w .0) ∙ sym (free-zero f L u (w .1))) z) k) (which u h)
 
         swap : (f : List ℕ → ℕ) → onSector f m s + onSector f m t ≡ onSector f L s + onSector f L t
-        swap f = let a = free-zero f m s fs in let b = free-zero f L t (T .was) in let c : onSector f m t ≡ onSector f L s = raws-sum f (itemsOf (sector t m)) X E in omega arith
+        swap f =
+            let a = free-zero f m s fs in let b = free-zero f L t (T .was) in let c : onSector f m t ≡ onSector f L s = raws-sum f (itemsOf (sector t m)) X E in omega arith
 
         free-same : (u : ℕ) → u < n → (u ≡ s → ⊥) → (u ≡ t → ⊥) → freeAt L u ≡ freeAt m u
         free-same u h a b = ⊎-elim (λ k. absurd (a k)) (λ k. ⊎-elim (λ z. absurd (b z)) (λ z. ⊎-elim (λ w. rw (w .1)) (λ w. rw (w .0, w .1)) z) k) (which u h)
@@ -186,10 +199,14 @@ module _ (L : List ℕ) (s : ℕ) (G : Good L s) (small : (i : ℕ) → getD L i
 
   -- no target: the source had no items
   module _ (m : List ℕ) (D : Side L m s) (fs : isFree (stateOf (sector s m)) ≡ true) (F : AllFree L m) (E : X ≡ []) where
-    sort : (u : ℕ) → u < n → (u ≡ s) ⊎ (((u ≡ s → ⊥) × (sector u m ≡ sector u L) × (stateOf (sector u m) ≡ Full)) ⊎ ((isFree (stateOf (sector u m)) ≡ true) × (isFree (stateOf (sector u L)) ≡ true)))
+    sort : (u : ℕ) → u < n
+        → (u ≡ s) ⊎
+        (((u ≡ s → ⊥) × (sector u m ≡ sector u L) × (stateOf (sector u m) ≡ Full)) ⊎ ((isFree (stateOf (sector u m)) ≡ true) × (isFree (stateOf (sector u L)) ≡ true)))
     sort u h = go (eqb u s) refl (isFree (stateOf (sector u L))) refl
       where
-        go : (a : Bool) → eqb u s ≡ a → (c : Bool) → isFree (stateOf (sector u L)) ≡ c → (u ≡ s) ⊎ (((u ≡ s → ⊥) × (sector u m ≡ sector u L) × (stateOf (sector u m) ≡ Full)) ⊎ ((isFree (stateOf (sector u m)) ≡ true) × (isFree (stateOf (sector u L)) ≡ true)))
+        go : (a : Bool) → eqb u s ≡ a → (c : Bool) → isFree (stateOf (sector u L)) ≡ c
+            → (u ≡ s) ⊎
+            (((u ≡ s → ⊥) × (sector u m ≡ sector u L) × (stateOf (sector u m) ≡ Full)) ⊎ ((isFree (stateOf (sector u m)) ≡ true) × (isFree (stateOf (sector u L)) ≡ true)))
         go true x c z = inl (eqb-true u s x)
         go false x false z = inr (inl (eqb-false u s x, D .kept u h (eqb-false u s x) z, active-old m D u h (eqb-false u s x) z))
         go false x true z = inr (inr (F u h z, z))
@@ -197,7 +214,8 @@ module _ (L : List ℕ) (s : ℕ) (G : Good L s) (small : (i : ℕ) → getD L i
     -- every sector is Full or free
     quiet-at : (u : ℕ) → u < n → (active (stateOf (sector u m)) ≡ false) × (freeing (stateOf (sector u m)) ≡ false)
     quiet-at u h =
-        ⊎-elim (λ k. free-neither (stateOf (sector u m)) (ap (λ (v : ℕ). isFree (stateOf (sector v m))) k ∙ fs)) (λ k. ⊎-elim (λ z. rw (z .2) (refl, refl)) (λ z. free-neither (stateOf (sector u m)) (z .0)) k) (sort u h)
+        ⊎-elim (λ k. free-neither (stateOf (sector u m)) (ap (λ (v : ℕ). isFree (stateOf (sector v m))) k ∙ fs))
+        (λ k. ⊎-elim (λ z. rw (z .2) (refl, refl)) (λ z. free-neither (stateOf (sector u m)) (z .0)) k) (sort u h)
 
     pub gone-final : Final L m
     gone-final =
@@ -217,7 +235,9 @@ module _ (L : List ℕ) (s : ℕ) (G : Good L s) (small : (i : ℕ) → getD L i
         none-s f = unfold sumOf in rw E
 
         same-at : (f : List ℕ → ℕ) (u : ℕ) → u < n → onSector f m u ≡ onSector f L u
-        same-at f u h = ⊎-elim (λ k. ap (onSector f m) k ∙ free-zero f m s fs ∙ sym (none-s f) ∙ ap (onSector f L) (sym k)) (λ k. ⊎-elim (λ w. rw (w .1)) (λ w. free-zero f m u (w .0) ∙ sym (free-zero f L u (w .1))) k) (sort u h)
+        same-at f u h =
+            ⊎-elim (λ k. ap (onSector f m) k ∙ free-zero f m s fs ∙ sym (none-s f) ∙ ap (onSector f L) (sym k))
+            (λ k. ⊎-elim (λ w. rw (w .1)) (λ w. free-zero f m u (w .0) ∙ sym (free-zero f L u (w .1))) k) (sort u h)
 
         free-same : (u : ℕ) → u < n → (u ≡ s → ⊥) → freeAt L u ≡ freeAt m u
         free-same u h a = ⊎-elim (λ k. absurd (a k)) (λ k. ⊎-elim (λ w. rw (w .1)) (λ w. rw (w .0, w .1)) k) (sort u h)
@@ -232,7 +252,8 @@ module _ (L : List ℕ) (s : ℕ) (G : Good L s) (small : (i : ℕ) → getD L i
   pub same-final : Final L L
   same-final = record {
     len = refl;
-    rest = record { no-freeing = λ u h. full-or-free u h .1; room = λ u h e. absurd (true≢false e (full-or-free u h .0)); only = λ u v hu hv eu ev. absurd (true≢false eu (full-or-free u hu .0)) };
+    rest =
+        record { no-freeing = λ u h. full-or-free u h .1; room = λ u h e. absurd (true≢false e (full-or-free u h .0)); only = λ u v hu hv eu ev. absurd (true≢false eu (full-or-free u hu .0)) };
     totals = λ f. refl;
     free = omega arith;
   }

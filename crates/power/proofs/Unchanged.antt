@@ -35,7 +35,8 @@ dup-into : (L : List ℕ) → blobSteps (found (pages L) L) ≡ [] → Hit (foun
 unfolding stages duplicateStage run
 dup-into L b k = rw b (hit-left (found (pages L) L) (duplicateSteps (found (pages L) L)) _ k)
 
-none-into : (L : List ℕ) → ((p : Page) → p ∈ pages L → activePage p ≡ false) → blobSteps (found (pages L) L) ≡ [] → duplicateSteps (found (pages L) L) ≡ [] → stages (pages L) L ≡ []
+none-into : (L : List ℕ) → ((p : Page) → p ∈ pages L → activePage p ≡ false) → blobSteps (found (pages L) L) ≡ [] → duplicateSteps (found (pages L) L) ≡ []
+    → stages (pages L) L ≡ []
 unfolding stages duplicateStage run lastMarks
 none-into L na b d = rw (b, d, keep-none (λ (p : Page). activePage p && noRoom (sector (p .sector) L)) (pages L) (λ p m. rw (na p m)))
 

@@ -2,7 +2,7 @@
 use mathlib.Core.Path.{_∙_, _≡_, ap, refl}
 use mathlib.Core.Logic.{_⊎_, ⊎-elim}
 use mathlib.Core.Bool.{Bool, false, true}
-use mathlib.Core.List.{List, [], _∷_}
+use mathlib.Core.List.{List, [], _++_, _∷_}
 use Prim.Native.Nat.{_/_, _<_, ℕ}
 use lib.Dec.{eqb}
 use lib.ListN.{getD, take}
@@ -21,19 +21,18 @@ use Rattle.table.specs.Table.{activePage, freeingPage, frees, pageAt, pages, se
 use Rattle.table.proofs.Pages.{frees-in, in-frees}
 use Rattle.finish.specs.Finish.{round}
 use Rattle.recover.specs.Recover.{freeings}
-use Rattle.power.specs.Demand3.{total}
-use Rattle.power.proofs.Runs.{Runs, e-gone, one-step, rec-none, room, tail-idle}
+use Rattle.power.proofs.Runs.{Runs, rec-none, rescan}
 use Rattle.power.proofs.Quiet.{no-kept}
-use Rattle.power.proofs.Idle.{Calm}
 use Rattle.power.proofs.Finish.{Seq, finish-one, junk-round}
 use Rattle.power.proofs.Move.{blank-free, move-cut, move-end}
 use Rattle.power.proofs.Plain.{plain}
 use Rattle.power.proofs.Shape.{raws}
+use Rattle.power.proofs.Ends.{e-gone, one-step, room}
 use Rattle.power.proofs.State.{AllFree, Good, Old, Side, Source, SourceRecord, State, freeings-one, junk, junk-page, old-full, old-in, source-in, source-record}
 use Rattle.power.proofs.Steps.{Final, X-fine, cut-state, done-final, q-small, side-of, target-of}
 use Rattle.power.proofs.Copies.{Ready, ready-items, ready-seq, ready-settled}
 
-module _ (L : List ℕ) (s : ℕ) (G : Good L s) (small : (i : ℕ) → getD L i 0 < 256) (C : Calm (λ (f : List ℕ → ℕ). total f L)) where
+module _ (L : List ℕ) (s : ℕ) (G : Good L s) (small : (i : ℕ) → getD L i 0 < 256) where
   abbrev n : ℕ
   n = sectorsOf L
 
@@ -66,11 +65,10 @@ module _ (L : List ℕ) (s : ℕ) (G : Good L s) (small : (i : ℕ) → getD L i
     here : S ∈ pages l
     here = source-in L s G l D R
 
-    -- recovery's steps are those of the one round
-    by : (f : List Step) → (round S (pages l) (frees l) l) .steps ≡ f → Final L (run f l) → plain l ≡ f
-    by f e Z =
-        rec-none l (no-kept l no-active) one-freeing ∙ finish-one L s G (recordOf (sector s l)) K (pages l) (frees l) l here only one-freeing
-        ∙ rw e (tail-idle L s G small C l f Z)
+    -- recovery's steps are those of the one round, and what comes after
+    by : (f : List Step) → (round S (pages l) (frees l) l) .steps ≡ f → plain l ≡ f ++ rescan f l
+    by f e =
+        rec-none l (no-kept l no-active) one-freeing ∙ finish-one L s G (recordOf (sector s l)) K (pages l) (frees l) l here only one-freeing ∙ rw e
 
     state : State L s l
     state = junk D R t0 h0 w0 F
@@ -87,17 +85,21 @@ module _ (L : List ℕ) (s : ℕ) (G : Good L s) (small : (i : ℕ) → getD L i
         go false e = two (eqb t s) refl e
 
     -- the source copied to t
-    pub move-runs : (t q : ℕ) → t < n → isFree (stateOf (sector t l)) ≡ true → Seq L q → ((k : ℕ) → State L s (run (take k (moving s t q X l)) l)) × Final L (run (moving s t q X l) l)
+    pub move-runs : (t q : ℕ) → t < n → isFree (stateOf (sector t l)) ≡ true → Seq L q
+        → ((k : ℕ) → State L s (run (take k (moving s t q X l)) l)) × Final L (run (moving s t q X l) l)
     move-runs t q h f Q =
         let w = free-l-L t h f in
         let ne : (s ≡ t → ⊥) = (λ e. true≢false w (rw e at (G .page))) in
         let XF = X-fine L s G small in (
           λ k. cut-state L s G small l D R F t q h w Q (run (take k (moving s t q X l)) l) (length-run (take k (moving s t q X l)) l)
-              (move-cut q X (XF .0) (XF .1) s t l (room L s G small C l (D .len) t h) (room L s G small C l (D .len) s (G .here)) ne f k),
-          finish w ne (move-end q X (XF .0) (XF .1) s t l (room L s G small C l (D .len) t h) (room L s G small C l (D .len) s (G .here)) ne f),
+              (move-cut q X (XF .0) (XF .1) s t l (room L s G small l (D .len) t h) (room L s G small l (D .len) s (G .here)) ne f k),
+          finish w ne (move-end q X (XF .0) (XF .1) s t l (room L s G small l (D .len) t h) (room L s G small l (D .len) s (G .here)) ne f),
         )
       where
-        finish : isFree (stateOf (sector t L)) ≡ true → (s ≡ t → ⊥) → ((u : ℕ) → (u ≡ t → ⊥) → (u ≡ s → ⊥) → sector u (run (moving s t q X l) l) ≡ sector u l) × Ready q (raws X) (sector t (run (moving s t q X l) l)) × (sector s (run (moving s t q X l) l) ≡ blank 4096) → Final L (run (moving s t q X l) l)
+        finish : isFree (stateOf (sector t L)) ≡ true → (s ≡ t → ⊥)
+            → ((u : ℕ) → (u ≡ t → ⊥) → (u ≡ s → ⊥) → sector u (run (moving s t q X l) l) ≡ sector u l) × Ready q (raws X)
+            (sector t (run (moving s t q X l) l)) × (sector s (run (moving s t q X l) l) ≡ blank 4096)
+            → Final L (run (moving s t q X l) l)
         finish w ne E =
             let m = run (moving s t q X l) l in
             let ln = length-run (moving s t q X l) l in
@@ -105,11 +107,15 @@ module _ (L : List ℕ) (s : ℕ) (G : Good L s) (small : (i : ℕ) → getD L i
             done-final L s G small m t q (side-of L s G small l D R F t q h w Q m ln (E .0)) (rw (E .2) blank-free)
             (target-of L s G small l D R F t q h w Q m ln (E .0) (ready-seq q X (sector t m) qs (E .1))) (ready-settled q X (sector t m) (E .1)) (ready-items q X (sector t m) (E .1))
 
-    pub junk-runs : Runs L s G small C l
+    pub junk-runs : Runs L s l
     junk-runs =
         let la = last-some (frees l) t0 (in-frees l t0 (rw nl h0) (F t0 h0 w0)) in
         let fr = frees-in l (la .0) (la .2) in
         ⊎-elim
-        (λ c. let Z = e-gone L s G small C l D F (c .1) in let e = by (erase s ∷ []) (c .0) (Z .1) in record { cut = λ k. rw e (one-step L s G small C l state (Z .0) k); end = rw e (Z .1) })
-        (λ c. let mv = move-runs (la .0) (c .0) (rw nl at (fr .0)) (fr .1) (c .1) in let e = by (moving s (la .0) (c .0) X l) (c .2) (mv .1) in record { cut = λ k. rw e (mv .0 k); end = rw e (mv .1) })
+        (λ c.
+        let Z = e-gone L s G small l D F (c .1) in
+        record { steps = erase s ∷ []; is = by (erase s ∷ []) (c .0); cut = one-step L s G small l state (Z .0); end = Z .1 })
+        (λ c.
+        let mv = move-runs (la .0) (c .0) (rw nl at (fr .0)) (fr .1) (c .1) in
+        record { steps = moving s (la .0) (c .0) X l; is = by (moving s (la .0) (c .0) X l) (c .2); cut = mv .0; end = mv .1 })
         (junk-round L s G (recordOf (sector s l)) K l D R (pages l) (frees l) from (old-in L s G l D) here (la .0) (la .1))

@@ -59,9 +59,11 @@ run-zero base e [] l f z = z
 run-zero base e (s ∷ ss) l f z = run-zero base e ss (apply s l) (λ t m. f t (inr m)) (apply-zero base e s l (f s (inl refl)) z)
 
 -- the word that erases the header is among the steps: the entry is Erased at the end
-pub hit-zero : (base e n : ℕ) (ss : List Step) (l : List ℕ) → base + 4096 ≤ length l → e < 126 → 1 ≤ n → ((st : Step) → st ∈ ss → Prog st) → stateWord base e n 3 (e / 16) ∈ ss → stateAt (drop base (run ss l)) e ≡ 0
+pub hit-zero : (base e n : ℕ) (ss : List Step) (l : List ℕ) → base + 4096 ≤ length l → e < 126 → 1 ≤ n → ((st : Step) → st ∈ ss → Prog st)
+    → stateWord base e n 3 (e / 16) ∈ ss → stateAt (drop base (run ss l)) e ≡ 0
 unfolding run
 hit-zero base e n [] l h k g f m = absurd m
 hit-zero base e n (s ∷ ss) l h k g f (inl q) =
-    run-zero base e ss (apply s l) (λ t m. f t (inr m)) (rw (← q) (word-sets base e n 3 (e / 16) e l h (omega arith) (omega arith) (omega arith) (omega arith) refl ∙ and8-none (stateAt (drop base l) e)))
+    run-zero base e ss (apply s l) (λ t m. f t (inr m))
+    (rw (← q) (word-sets base e n 3 (e / 16) e l h (omega arith) (omega arith) (omega arith) (omega arith) refl ∙ and8-none (stateAt (drop base l) e)))
 hit-zero base e n (s ∷ ss) l h k g f (inr m) = hit-zero base e n ss (apply s l) (rw (length-apply s l) h) k g (λ t w. f t (inr w)) m

@@ -25,9 +25,11 @@ module _ (l : List ℕ) where
   pub pagesTo-in : (n : ℕ) (p : Page) → p ∈ pagesTo l n → (p ≡ pageAt (p .sector) l) × (p .sector < n) × (isFree (stateOf (sector (p .sector) l)) ≡ false)
   unfolding pagesTo
   pagesTo-in zero p m = absurd m
-  pagesTo-in (suc n) p m = ⊎-elim (λ k. let r = pagesTo-in n p k in (r .0, omega (arith, r .1), r .2)) (λ k. go (isFree (stateOf (sector n l))) refl k) (in-append p (pagesTo l n) _ m)
+  pagesTo-in (suc n) p m =
+      ⊎-elim (λ k. let r = pagesTo-in n p k in (r .0, omega (arith, r .1), r .2)) (λ k. go (isFree (stateOf (sector n l))) refl k) (in-append p (pagesTo l n) _ m)
     where
-      go : (b : Bool) → isFree (stateOf (sector n l)) ≡ b → p ∈ cond b [] (pageAt n l ∷ []) → (p ≡ pageAt (p .sector) l) × (p .sector < suc n) × (isFree (stateOf (sector (p .sector) l)) ≡ false)
+      go : (b : Bool) → isFree (stateOf (sector n l)) ≡ b → p ∈ cond b [] (pageAt n l ∷ [])
+          → (p ≡ pageAt (p .sector) l) × (p .sector < suc n) × (isFree (stateOf (sector (p .sector) l)) ≡ false)
       go true q k = absurd k
       go false q (inl r) = rw r (refl, omega arith, q)
       go false q (inr k) = absurd k
@@ -37,7 +39,8 @@ module _ (l : List ℕ) where
   in-pagesTo zero u h e = absurd (omega arith)
   in-pagesTo (suc n) u h e = go (eqb u n) refl (in-pagesTo n u)
     where
-      go : (b : Bool) → eqb u n ≡ b → (u < n → isFree (stateOf (sector u l)) ≡ false → pageAt u l ∈ pagesTo l n) → pageAt u l ∈ (pagesTo l n ++ cond (isFree (stateOf (sector n l))) [] (pageAt n l ∷ []))
+      go : (b : Bool) → eqb u n ≡ b → (u < n → isFree (stateOf (sector u l)) ≡ false → pageAt u l ∈ pagesTo l n)
+          → pageAt u l ∈ (pagesTo l n ++ cond (isFree (stateOf (sector n l))) [] (pageAt n l ∷ []))
       go true q ih = let r = eqb-true u n q in in-right (pageAt u l) (pagesTo l n) _ (rw (← r, e) (inl refl))
       go false q ih = let r : (u ≡ n → ⊥) = eqb-false u n q in in-left (pageAt u l) (pagesTo l n) _ (ih (omega arith) e)
 
@@ -47,14 +50,16 @@ module _ (l : List ℕ) where
   sum-pagesTo f (suc n) = sum-append f (pagesTo l n) _ ∙ go (isFree (stateOf (sector n l))) (sum-pagesTo f n)
     where
       go : (b : Bool) → sumOf f (pagesTo l n) ≡ sumTo (λ (u : ℕ). cond (isFree (stateOf (sector u l))) 0 (f (pageAt u l))) n
-          → sumOf f (pagesTo l n) + sumOf f (cond b [] (pageAt n l ∷ [])) ≡ sumTo (λ (u : ℕ). cond (isFree (stateOf (sector u l))) 0 (f (pageAt u l))) n + cond b 0 (f (pageAt n l))
+          → sumOf f (pagesTo l n) + sumOf f (cond b [] (pageAt n l ∷ [])) ≡ sumTo
+          (λ (u : ℕ). cond (isFree (stateOf (sector u l))) 0 (f (pageAt u l))) n + cond b 0 (f (pageAt n l))
       go true q = omega arith
       go false q = omega arith
 
   pub freesTo-in : (n u : ℕ) → u ∈ freesTo l n → (u < n) × (isFree (stateOf (sector u l)) ≡ true)
   unfolding freesTo
   freesTo-in zero u m = absurd m
-  freesTo-in (suc n) u m = ⊎-elim (λ k. let r = freesTo-in n u k in (omega (arith, r .0), r .1)) (λ k. go (isFree (stateOf (sector n l))) refl k) (in-append u (freesTo l n) _ m)
+  freesTo-in (suc n) u m =
+      ⊎-elim (λ k. let r = freesTo-in n u k in (omega (arith, r .0), r .1)) (λ k. go (isFree (stateOf (sector n l))) refl k) (in-append u (freesTo l n) _ m)
     where
       go : (b : Bool) → isFree (stateOf (sector n l)) ≡ b → u ∈ cond b (n ∷ []) [] → (u < suc n) × (isFree (stateOf (sector u l)) ≡ true)
       go true q (inl r) = (omega arith, rw r q)
@@ -66,7 +71,8 @@ module _ (l : List ℕ) where
   in-freesTo zero u h e = absurd (omega arith)
   in-freesTo (suc n) u h e = go (eqb u n) refl (in-freesTo n u)
     where
-      go : (b : Bool) → eqb u n ≡ b → (u < n → isFree (stateOf (sector u l)) ≡ true → u ∈ freesTo l n) → u ∈ (freesTo l n ++ cond (isFree (stateOf (sector n l))) (n ∷ []) [])
+      go : (b : Bool) → eqb u n ≡ b → (u < n → isFree (stateOf (sector u l)) ≡ true → u ∈ freesTo l n)
+          → u ∈ (freesTo l n ++ cond (isFree (stateOf (sector n l))) (n ∷ []) [])
       go true q ih = let r = eqb-true u n q in in-right u (freesTo l n) _ (rw (← r, e) (inl refl))
       go false q ih = let r : (u ≡ n → ⊥) = eqb-false u n q in in-left u (freesTo l n) _ (ih (omega arith) e)
 
