@@ -30,8 +30,11 @@ pub fn agree(outcome: &Outcome, of_crate: &CrateOutcome) -> bool {
         && outcome.image == of_crate.image
 }
 
-/// Result, steps and image of an answer's bytes, and the bytes after it: records and stage are the port's own.
-fn take_answer(bytes: &[u8]) -> Option<((u8, u64, &[u8]), &[u8])> {
+/// Result, steps and image.
+type Answer<'a> = (u8, u64, &'a [u8]);
+
+/// The answer at the front of some bytes, and the bytes after it: records and stage are the port's own.
+fn take_answer(bytes: &[u8]) -> Option<(Answer<'_>, &[u8])> {
     let (head, rest) = bytes.split_at_checked(18)?;
     let steps = u64::from_le_bytes(head[1..9].try_into().ok()?);
     let length = u32::from_le_bytes(head[14..18].try_into().ok()?);

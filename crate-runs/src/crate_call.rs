@@ -42,12 +42,14 @@ impl End {
     }
 }
 
+/// Of a page of the crate's list: sector, entries counted as used, entries counted as erased.
+pub type Counted = (usize, u8, u8);
+
 pub struct CrateOutcome {
     pub end: End,
     pub steps: Vec<Step>,
     pub image: Vec<u8>,
-    /// Of each page of the crate's list: sector, entries counted as used, entries counted as erased.
-    pub counted: Vec<(usize, u8, u8)>,
+    pub counted: Vec<Counted>,
 }
 
 fn end_of(error: Error, recorder: &Recorder) -> End {
@@ -63,7 +65,7 @@ fn call(
     flash: Flash<&mut Recorder>,
     operation: Operation,
     ordered: bool,
-) -> (Result<(), Error>, Vec<(usize, u8, u8)>) {
+) -> (Result<(), Error>, Vec<Counted>) {
     let sectors = (flash.image.len() / SECTOR_BYTES) as u16;
     let mut nvs = Nvs::unread(flash, sectors, ordered);
     let result = match operation {

@@ -122,20 +122,23 @@ fn draw_pieces(random: &mut Random) -> Vec<Piece> {
             pieces.push(draw_plain(random));
         }
     }
-    // Two values of a key: the power went before the older was erased.
     for _ in 0..random.choose(&[0, 0, 1, 2]) {
-        if !pieces.is_empty() {
-            let again = random.choose(&pieces.iter().map(|piece| piece.0).collect::<Vec<_>>());
-            if again.kind != CHUNK && again.kind != INDEX {
-                let number = fields(0x04, again.key, value(random.next() as u32));
-                pieces.push((
-                    Fields { namespace: again.namespace, chunk_index: again.chunk_index, ..number },
-                    Vec::new(),
-                ));
-            }
-        }
+        pieces.extend(draw_again(random, &pieces));
     }
     pieces
+}
+
+/// A second value of a key: the power went before the older was erased.
+fn draw_again(random: &mut Random, pieces: &[Piece]) -> Option<Piece> {
+    if pieces.is_empty() {
+        return None;
+    }
+    let Fields { namespace, kind, key, chunk_index, .. } = pieces[random.below(pieces.len())].0;
+    if kind == CHUNK || kind == INDEX {
+        return None;
+    }
+    let number = fields(0x04, key, value(random.next() as u32));
+    Some((Fields { namespace, chunk_index, ..number }, Vec::new()))
 }
 
 /// A free sector: mostly Blank, else torn in its header or behind it.

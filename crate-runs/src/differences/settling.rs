@@ -49,8 +49,8 @@ fn keys_against_hashes() -> (String, String) {
         bytes.push(0xFF);
         crc(&bytes).to_le_bytes()[..3].to_vec()
     };
-    let keys: Vec<String> = (b'a'..b'z').map(|letter| (letter as char).to_string()).collect();
-    let pair = keys.windows(2).find(|pair| hash(&pair[0]) > hash(&pair[1])).expect("some of 25");
+    let keys: Vec<String> = (b'a'..=b'z').map(|letter| (letter as char).to_string()).collect();
+    let pair = keys.windows(2).find(|pair| hash(&pair[0]) > hash(&pair[1])).expect("some pair of 25");
     (pair[0].clone(), pair[1].clone())
 }
 
