@@ -13,6 +13,7 @@ use Rattle.lists.specs.Lists.{sumOf, lesser, leastFrom, ascendTo, ascend
 use Rattle.lists.proofs.Member.{_∈_, none≢some}
 use Rattle.lists.proofs.Sums.{sum-ge}
 
+-- where the search finds none, all are below v
 pub least-none : (v : ℕ) (cs : List ℕ) → leastFrom v cs ≡ none → (c : ℕ) → c ∈ cs → c < v
 unfolding leastFrom
 least-none v [] e c m = absurd m
@@ -33,6 +34,7 @@ least-none v (x ∷ xs) e c m = go (leastFrom v xs) refl e (least-none v xs)
 abbrev Least : ℕ → List ℕ → ℕ → Type 0
 Least v cs w = (w ∈ cs) × (v ≤ w) × ((c : ℕ) → c ∈ cs → v ≤ c → w ≤ c)
 
+-- what it finds is a member from v on, and the least of them
 pub least-some : (v : ℕ) (cs : List ℕ) (w : ℕ) → leastFrom v cs ≡ some w → Least v cs w
 unfolding leastFrom
 least-some v [] w e = absurd (none≢some refl e)
@@ -61,6 +63,7 @@ least-some v (x ∷ xs) w e = go (leastFrom v xs) refl e (least-some v xs)
     go none q f ih = two (leb v x) refl q f
     go (some y) q f ih = three (leb v x) y refl (ih y q) f
 
+-- what the searches give are members; and each member from v on is given, where there are enough searches
 pub ascend-in : (n v : ℕ) (cs : List ℕ) (c : ℕ) → c ∈ ascendFrom n v cs → c ∈ cs
 unfolding ascendFrom ascendTo
 ascend-in zero v cs c m = absurd m
@@ -118,6 +121,7 @@ unfolding sumOf
 count-all [] = omega arith
 count-all (x ∷ xs) = let e : _≡_ {A = ℕ} (cond (leb 0 x) 1 0) 1 = rw (le-leb 0 x (omega arith)) in let q = count-all xs in omega arith
 
+-- so the members of the list ascending are the members of the list
 pub ascending-in : (cs : List ℕ) (c : ℕ) → c ∈ ascending cs → c ∈ cs
 unfolding ascending
 ascending-in cs c m = ascend-in (length cs) 0 cs c m

@@ -8,6 +8,7 @@ use Rattle.lists.proofs.Member.{_∈_, nil-left, nil-right, in-left, in
 use Rattle.lists.proofs.Sums.{sum-append}
 
 module _ {A B : Type 0} where
+  -- a sum over what was made is a sum over what it was made of
   pub sum-flatMap : (f : B → ℕ) (g : A → List B) (xs : List A) → sumOf f (flatMap g xs) ≡ sumOf (λ (x : A). sumOf f (g x)) xs
   unfolding flatMap sumOf
   sum-flatMap f g [] = refl
@@ -18,6 +19,7 @@ module _ {A B : Type 0} where
   sum-map f g [] = refl
   sum-map f g (x ∷ xs) = ap (λ (n : ℕ). f (g x) + n) (sum-map f g xs)
 
+  -- nothing is made where each makes nothing, and the other way
   pub flatMap-none : (g : A → List B) (xs : List A) → ((y : A) → y ∈ xs → g y ≡ []) → flatMap g xs ≡ []
   unfolding flatMap
   flatMap-none g [] h = refl
@@ -29,6 +31,7 @@ module _ {A B : Type 0} where
   flatMap-each g (x ∷ xs) e y (inl r) = ap g r ∙ nil-left (g x) (flatMap g xs) e
   flatMap-each g (x ∷ xs) e y (inr m) = flatMap-each g xs (nil-right (g x) (flatMap g xs) e) y m
 
+  -- the members of what was made
   pub in-map : (g : A → B) (xs : List A) (y : A) → y ∈ xs → g y ∈ map g xs
   in-map g [] y m = absurd m
   in-map g (x ∷ xs) y (inl r) = inl (ap g r)

@@ -13,6 +13,7 @@ _∈_ x [] = ⊥
 _∈_ x (y ∷ ys) = (x ≡ y) ⊎ (x ∈ ys)
 
 infix 50 _∈_
+-- no test has both answers, and no search finds both something and nothing
 pub true≢false : {b : Bool} → b ≡ true → b ≡ false → ⊥
 true≢false {b} p q = let z : _≡_ {A = ℕ} 0 1 = cc in omega arith
 
@@ -20,9 +21,11 @@ pub none≢some : {A : Type 0} {o : Option A} {x : A} → o ≡ none → o ≡ s
 none≢some {o} {x} p q = let z : _≡_ {A = ℕ} 0 1 = cc in omega arith
 
 module _ {A : Type 0} where
+  -- a list with a member is not the empty one
   pub nil≢ : {x : A} {xs : List A} → x ∷ xs ≡ [] → ⊥
   nil≢ {x} {xs} p = let z : _≡_ {A = ℕ} 0 1 = cc in omega arith
 
+  -- where two lists put together are empty, each is
   pub nil-left : (a b : List A) → a ++ b ≡ [] → a ≡ []
   nil-left [] b e = refl
   nil-left (x ∷ a) b e = absurd (nil≢ e)
@@ -31,6 +34,7 @@ module _ {A : Type 0} where
   nil-right [] b e = e
   nil-right (x ∷ a) b e = absurd (nil≢ e)
 
+  -- a member of either is a member of both together, and no others are
   pub in-left : (x : A) (a b : List A) → x ∈ a → x ∈ (a ++ b)
   in-left x [] b m = absurd m
   in-left x (y ∷ a) b (inl e) = inl e

@@ -26,6 +26,7 @@ module _ {A : Type 0} where
   in-dropLast (x ∷ (w ∷ ws)) y z e (inl r) = inr (inl r)
   in-dropLast (x ∷ (w ∷ ws)) y z e (inr m) = ⊎-elim (λ q. inl q) (λ q. inr (inr q)) (in-dropLast (w ∷ ws) y z e m)
 
+  -- all but the last are members
   pub dropLast-in : (xs : List A) (y : A) → y ∈ dropLast xs → y ∈ xs
   dropLast-in [] y m = absurd m
   dropLast-in (x ∷ []) y m = absurd m
@@ -91,6 +92,7 @@ module _ {A : Type 0} where
         go none q = absurd (none≢some q (last-some xs x m .1))
         go (some z) q = pin z q (p z) refl
 
+    -- what is left was there
     pub out-in : (xs : List A) (y : A) → y ∈ takeOut p xs → y ∈ xs
     unfolding takeOut outWith
     out-in xs y m = go (getLast? xs) refl m

@@ -24,6 +24,7 @@ module _ {A : Type 0} where
   keep-step p x xs y ih true e (inr m) = (inr (ih m .0), ih m .1)
   keep-step p x xs y ih false e m = (inr (ih m .0), ih m .1)
 
+  -- what is kept is a member that passes, and each such member is kept
   pub keep-in : (p : A → Bool) (xs : List A) (y : A) → y ∈ keep p xs → (y ∈ xs) × (p y ≡ true)
   unfolding keep
   keep-in p [] y m = absurd m
@@ -47,6 +48,7 @@ module _ {A : Type 0} where
   every-is p [] h = refl
   every-is p (x ∷ xs) h = rw (h x (inl refl)) (every-is p xs (λ y m. h y (inr m)))
 
+  -- all pass, and this is a member
   pub every-of : (p : A → Bool) (xs : List A) → every p xs ≡ true → (y : A) → y ∈ xs → p y ≡ true
   unfolding every
   every-of p [] e y m = absurd m
@@ -57,6 +59,7 @@ module _ {A : Type 0} where
       go true q f (inr n) ih = ih f y n
       go false q f n ih = absurd (true≢false f refl)
 
+  -- one member that passes is enough; and where some one passes there is such a member
   pub some-is : (p : A → Bool) (xs : List A) (y : A) → y ∈ xs → p y ≡ true → some-of p xs ≡ true
   unfolding some-of
   some-is p [] y m e = absurd m
@@ -82,6 +85,7 @@ module _ {A : Type 0} where
   first-none p [] h = refl
   first-none p (x ∷ xs) h = rw (h x (inl refl)) (first-none p xs (λ y m. h y (inr m)))
 
+  -- where a member passes, the first that passes is found
   pub first-some : (p : A → Bool) (xs : List A) (y : A) → y ∈ xs → p y ≡ true → (z : A) × (firstOf p xs ≡ some z) × (z ∈ xs) × (p z ≡ true)
   unfolding firstOf
   first-some p [] y m e = absurd m
@@ -97,6 +101,7 @@ module _ {A : Type 0} where
   pub first-only : (p : A → Bool) (xs : List A) (x : A) → x ∈ xs → p x ≡ true → ((y : A) → y ∈ xs → p y ≡ true → y ≡ x) → firstOf p xs ≡ some x
   first-only p xs x m e h = let r = first-some p xs x m e in r .1 ∙ ap {B = Option A} some (h (r .0) (r .2) (r .3))
 
+  -- a list with a member has a last, which is a member
   pub last-some : (xs : List A) (y : A) → y ∈ xs → (z : A) × (getLast? xs ≡ some z) × (z ∈ xs)
   last-some [] y m = absurd m
   last-some (x ∷ []) y m = (x, refl, inl refl)
@@ -126,6 +131,7 @@ module _ {A : Type 0} where
       go none q f ih = inl (cc)
       go (some y) q f ih = pin (over y x) y (ih y q) f
 
+  -- a list with a member has a best, which is a member; where all are x, it is x
   pub best-some : (over : A → A → Bool) (xs : List A) (y : A) → y ∈ xs → (z : A) × (best over xs ≡ some z) × (z ∈ xs)
   unfolding best
   best-some over [] y m = absurd m

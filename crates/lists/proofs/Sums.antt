@@ -17,6 +17,7 @@ module _ {A : Type 0} where
   greatest-ge f (x ∷ xs) y (inl r) = let q : f y ≡ f x = ap f r in omega arith
   greatest-ge f (x ∷ xs) y (inr m) = let q = greatest-ge f xs y m in omega arith
 
+  -- below a bound that all members are below
   pub greatest-lt : (f : A → ℕ) (xs : List A) (b : ℕ) → 0 < b → ((y : A) → y ∈ xs → f y < b) → greatest f xs < b
   unfolding greatest
   greatest-lt f [] b g h = g
@@ -28,12 +29,14 @@ module _ {A : Type 0} where
   sum-append f [] b = omega arith
   sum-append f (x ∷ a) b = let q = sum-append f a b in omega arith
 
+  -- a member adds its part
   pub sum-ge : (f : A → ℕ) (xs : List A) (y : A) → y ∈ xs → f y ≤ sumOf f xs
   unfolding sumOf
   sum-ge f [] y m = absurd m
   sum-ge f (x ∷ xs) y (inl r) = let q : f y ≡ f x = ap f r in omega arith
   sum-ge f (x ∷ xs) y (inr m) = let q = sum-ge f xs y m in omega arith
 
+  -- a sum of nothing but zeros; of the same; of what is kept
   pub sum-zero : (f : A → ℕ) (xs : List A) → ((y : A) → y ∈ xs → f y ≡ 0) → sumOf f xs ≡ 0
   unfolding sumOf
   sum-zero f [] h = refl
@@ -54,6 +57,7 @@ module _ {A : Type 0} where
       go true q = omega arith
       go false q = omega arith
 
+  -- member by member
   pub sum-le : (f g : A → ℕ) (xs : List A) → ((y : A) → y ∈ xs → f y ≤ g y) → sumOf f xs ≤ sumOf g xs
   unfolding sumOf
   sum-le f g [] h = omega arith

@@ -83,6 +83,7 @@ module _ (L : List ℕ) (s : ℕ) (G : Good L s) (small : (i : ℕ) → getD L i
         low p (inr (inl k)) = let a : sequence p ≡ q = ap {B = ℕ} (λ (z : Page). sequence z) k ∙ W .has-sequence in let b = T .bound in omega arith
         low p (inr (inr k)) = old-low p k
 
+  -- so it is never refused
   pub accept : (l : List ℕ) → State L s l → accepted l ≡ true
   accept l (same k) = rw k ok
   accept l (junk D R t h w F) = accept-junk l D R F

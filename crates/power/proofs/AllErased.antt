@@ -43,6 +43,7 @@ walk-none T (suc m) i h = rw (not-item (isItem T i) refl) (walk-none T m (i + 1)
     not-item false q = q
     not-item true q = let r = item-is T i q in let a = r .some in let b = r .ends in let c = r .is-written in let d = h i (omega arith) in absurd (omega arith)
 
+-- all 126 are Erased
 pub items-none : (T : List ℕ) → countState T 0 ≡ 126 → itemsOf T ≡ []
 unfolding itemsOf
 items-none T e = rw (walk-none T 126 0 (count-every (stateAt T) 0 126 e)) (go (isFree (stateOf T)))

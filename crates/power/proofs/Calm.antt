@@ -235,5 +235,6 @@ module _ (fs : List Found) (tidy : Tidy fs) (idle3 : blobSteps fs ≡ []) (idle4
       ∙ sum-one (λ (x : Found). indexSize (x .raw)) (indices v fs) (i .0) (i .1)
       ∙ eqb-true _ _ (both-second (eqb (indexCount (i .0 .raw)) (sumOf (λ (x : Found). one (chunkOf v (x .raw))) fs)) _ ((i .2)))
 
+  -- so the items are calm
   pub calm : Calm (λ (f : List ℕ → ℕ). tot f fs)
   calm = record { single = single; lone = lone; not-both = not-both; has = has; count = count; size = size }

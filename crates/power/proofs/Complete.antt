@@ -17,10 +17,10 @@ use Rattle.table.specs.declared.Page.{Page}
 use Rattle.table.specs.Table.{activePage, freeingPage, frees, itemsIn, pageAt, pages, sectorsOf}
 use Rattle.recover.specs.Recover.{freeings}
 use Rattle.power.proofs.State.{Good, Old, Side, Source, SourceRecord, Target, TargetRecord, freeings-one, full, old-full, old-in, source-in, source-record, target-apart, target-in, target-page, target-record}
-use Rattle.power.proofs.Runs.{Runs, rec-none, rescan}
+use Rattle.power.proofs.Runs.{Runs, rec-none}
 use Rattle.power.proofs.Quiet.{no-kept}
 use Rattle.power.proofs.Finish.{finish-one, full-round}
-use Rattle.power.proofs.Plain.{finishOn, plain}
+use Rattle.power.proofs.Plain.{finishOn, plain, rescan}
 use Rattle.power.proofs.Shape.{raws}
 use Rattle.power.proofs.Ends.{e-done, one-step}
 use Rattle.power.proofs.Items.{listed-items}
@@ -52,12 +52,14 @@ module _ (L : List ℕ) (s : ℕ) (G : Good L s) (small : (i : ℕ) → getD L i
       not-source p (inl k) = ap {B = PageState} (λ (z : Page). z .seen .state) k ∙ W .in-state
       not-source p (inr k) = old-full L s G p k
 
+      -- no page of the list is Active, and the source alone is Freeing
       pub no-active : (p : Page) → Which p → activePage p ≡ false
       no-active p c = ⊎-elim (λ k. ap {B = Bool} (λ (z : Page). activePage z) k ∙ rw (K .is-freeing)) (λ k. rw (not-source p k)) c
 
       pub only : (p : Page) → Which p → freeingPage p ≡ true → p ≡ S
       only p c e = ⊎-elim (λ k. k) (λ k. absurd (true≢false e (rw (not-source p k)))) c
 
+      -- the finish stage erases the source
       pub full-steps : (ps : List Page) (fs : List ℕ) → ((p : Page) → p ∈ ps → Which p)
           →
           ((u : ℕ) → u < n → (u ≡ s
@@ -68,6 +70,7 @@ module _ (L : List ℕ) (s : ℕ) (G : Good L s) (small : (i : ℕ) → getD L i
           let e = full-round L s G r K l t q Full v W t-not-s ps fs from has here there refl (record { above = T .above; bound = T .bound }) same in
           finish-one L s G r K ps fs l here (λ p m. only p (from p m)) o ∙ rw e
 
+    -- recovery from there
     pub full-runs : Runs L s l
     full-runs =
         let r = recordOf (sector s l) in

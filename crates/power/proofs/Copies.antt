@@ -30,6 +30,7 @@ use Rattle.power.proofs.Shape.{AllFine, Fine, Shape, raws, shape-active
 use Rattle.power.proofs.State.{Partial, Settled}
 use Rattle.power.proofs.OneItem.{item-cut, item-end, item-ones}
 
+-- how many entries they take
 abbrev pub spans : List (List ℕ) → ℕ
 spans rs = sumOf (λ (r : List ℕ). spanOf r) rs
 
@@ -44,12 +45,14 @@ pub record Going (q : ℕ) (R : List (List ℕ)) (T : List ℕ) : Type 0 where
   pub fit : p + spans more ≤ 126
   pub fine : AllFine more
 
+-- all is laid: the page is Active and has room, or it is Full
 pub record Ready (q : ℕ) (R : List (List ℕ)) (T : List ℕ) : Type 0 where
   pub p : ℕ
   pub shape : Shape q T R p
   pub word : ((p < 126) × Word4 T 0xFE) ⊎ Word4 T 0xFC
 
 module _ (q : ℕ) (R : List (List ℕ)) where
+  -- all items copied
   pub copies-end : (T : List ℕ) (ys : List (List ℕ)) (p : ℕ) (xs : List Laid) → Shape q T ys p → (p < 126) → Word4 T 0xFE
       → ((i : ℕ) → 64 + p * 32 ≤ i → i < 4096 → getD T i 0 ≡ 0xFF)
       → ys ++ raws xs ≡ R → p + spans (raws xs) ≤ 126 → AllFine (raws xs) → Ready q R (run (copies 0 p xs) T)
@@ -120,9 +123,11 @@ more-none (r ∷ rs) F h = let b = F .0 .some in absurd (omega arith)
 
 -- ---- what is read of it
 module _ (q : ℕ) (xs : List Laid) (T : List ℕ) where
+  -- a page to which a part was copied
   pub going-active : Going q (raws xs) T → stateOf T ≡ Active
   going-active G = shape-active q T (G .ys) (G .p) (G .shape) (G .word)
 
+  -- its items are the source's, and all of them where no entry is Empty
   pub going-partial : (S : List ℕ) → itemsOf S ≡ xs → Going q (raws xs) T → Partial S T
   going-partial S e G =
       let it : raws (itemsOf T) ≡ G .ys = shape-items q T (G .ys) (G .p) (G .shape) (rw (going-active G)) in
@@ -146,6 +151,7 @@ module _ (q : ℕ) (xs : List Laid) (T : List ℕ) where
       ⊎-elim (λ k. inl (shape-active q T (raws xs) (D .p) (D .shape) (k .1), shape-room q T (raws xs) (D .p) (D .shape) (k .0)))
       (λ k. inr (shape-full q T (raws xs) (D .p) (D .shape) k)) (D .word)
 
+  -- and its items are the source's
   pub ready-items : Ready q (raws xs) T → raws (itemsOf T) ≡ raws xs
   ready-items D = shape-items q T (raws xs) (D .p) (D .shape) (⊎-elim (λ k. rw (k .0)) (λ k. rw k) (ready-settled D))
 
@@ -193,6 +199,7 @@ module _ (S : List ℕ) (len : length S ≡ 4096) (small : (i : ℕ) → getD S 
       go true q x = let I = item-is S i q in let a = raw-span S i I in let b = I .ends in let c = x .1 in ((fine-raw i I, x .0), omega arith)
       go false q x = let c = x .1 in (x .0, omega arith)
 
+  -- the items of a page are fine, and fit on one
   pub items-fine : AllFine (raws (itemsOf S)) × (spans (raws (itemsOf S)) ≤ 126)
   unfolding itemsOf sumOf
   items-fine = go (isFree (stateOf S)) (walk-fine 126 0)

@@ -10,6 +10,7 @@ use Rattle.entry.specs.States.{one}
 use Rattle.lists.specs.Lists.{keep, sumOf}
 use Rattle.lists.proofs.Member.{_∈_}
 
+-- a list of one
 pub length-one : {A : Type 0} (xs : List A) → length xs ≡ 1 → (x : A) × (xs ≡ x ∷ [])
 length-one [] e = absurd (omega arith)
 length-one (x ∷ []) e = (x, refl)
@@ -18,6 +19,7 @@ length-one (x ∷ (y ∷ ys)) e = absurd (omega arith)
 pub one-true : (b : Bool) → b ≡ true → one b ≡ 1
 one-true b e = rw e
 
+-- where the count is not 0, a member passes
 pub pos-in : {A : Type 0} (p : A → Bool) (xs : List A) → 1 ≤ sumOf (λ (x : A). one (p x)) xs → (x : A) × (x ∈ xs) × (p x ≡ true)
 unfolding sumOf
 pos-in p [] h = absurd (omega arith)
@@ -28,6 +30,7 @@ pos-in p (x ∷ xs) h = go (p x) refl h (pos-in p xs)
     go true q k ih = (x, inl refl, q)
     go false q k ih = let r = ih (omega arith) in (r .0, inr (r .1), r .2)
 
+-- what is kept is what is counted
 pub length-keep : {A : Type 0} (p : A → Bool) (xs : List A) → length (keep p xs) ≡ sumOf (λ (x : A). one (p x)) xs
 unfolding sumOf keep
 length-keep p [] = refl

@@ -32,6 +32,7 @@ module _ (Torn : Tearing) (atomic : Atomic Torn) where
       let ks = begun-cuts n (b .0) m (b .2) in
       (k .0 ∷ ks .0, ks .1 ∙ ap (recoveries (ks .0)) (k .1))
 
+  -- demand 3 for such cuts
   pub power-safe : PowerSafe Torn
   unfolding failing
   power-safe l S x m c n b =

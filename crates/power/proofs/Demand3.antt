@@ -32,6 +32,7 @@ module _ (L : List ℕ) (S : Store L) where
   -- ---- from one of the images on
 
   module _ (s : ℕ) (G : Good L s) where
+    -- recovery is accepted, so its steps are those of the rules; and they end with the finish stage
     accepts : (l : List ℕ) → State L s l → accepted l ≡ true
     accepts l T = accept L s G (S .bytes) (S .accepts) l T
 
@@ -45,29 +46,29 @@ module _ (L : List ℕ) (S : Store L) where
     steps-are : (l : List ℕ) (T : State L s l) → untag (recovery l) ≡ on l T .steps
     steps-are l T = recovery-is l T ∙ calm-runs L s (calm-items L S) l (on l T)
 
+    -- a recovery cut, and begun again, ..
     cut-state : (ks l : List ℕ) → State L s l → State L s (recoveries ks l)
     unfolding recoveries
     cut-state [] l T = T
     cut-state (k ∷ ks) l T = cut-state ks (run (take k (untag (recovery l))) l) (rw (steps-are l T) (on l T .cut k))
 
+    -- and at last run to its end
     end-final : (m : List ℕ) → State L s m → Final L (recovered m)
     unfolding recovered
     end-final m T = rw (steps-are m T) (on m T .end)
 
-  -- an item's bytes determine its name
+  -- an item's bytes determine its name, which no other item has
   held-once : (x : List ℕ) → held x L ≤ 1
+  unfolding total
   held-once x =
-      let a = sum-le (λ (i : Laid). one (sameBytes (i .raw) x)) (λ (i : Laid). one (sameBytes (nameOf (i .raw)) (nameOf x))) (stored L) (λ i m. named (i .raw) (sameBytes (i .raw) x) refl) in
-      let b = S .unshared (nameOf x) in
-      summed a b
+      let names : sumOf (λ (i : Laid). one (sameBytes (nameOf (i .raw)) (nameOf x))) (stored L) ≤ 1 = S .unshared (nameOf x) in
+      let le = sum-le (λ (i : Laid). one (sameBytes (i .raw) x)) (λ (i : Laid). one (sameBytes (nameOf (i .raw)) (nameOf x))) (stored L)
+      (λ i m. named (i .raw) (sameBytes (i .raw) x) refl) in
+      omega arith
     where
       named : (r : List ℕ) (b : Bool) → sameBytes r x ≡ b → one b ≤ one (sameBytes (nameOf r) (nameOf x))
       named r true e = rw (same-eq r x e, same-refl (nameOf x)) (omega arith)
       named r false e = omega arith
-
-      summed : sumOf (λ (i : Laid). one (sameBytes (i .raw) x)) (stored L) ≤ sumOf (λ (i : Laid). one (sameBytes (nameOf (i .raw)) (nameOf x))) (stored L)
-          → total (λ (r : List ℕ). one (sameBytes (nameOf r) (nameOf x))) L ≤ 1 → held x L ≤ 1
-      summed a b = unfold total in (let c : sumOf (λ (i : Laid). one (sameBytes (nameOf (i .raw)) (nameOf x))) (stored L) ≤ 1 = b in omega arith)
 
   safe-by : (m : List ℕ) → accepted m ≡ true → ((f : List ℕ → ℕ) → total f (recovered m) ≡ total f L) → length (frees L) ≤ length (frees (recovered m)) → Safe L m
   safe-by m a t f =
@@ -80,6 +81,7 @@ module _ (L : List ℕ) (S : Store L) where
 
   -- ---- from the store itself, which recovery leaves
 
+  -- however often it is begun
   stays : (ks : List ℕ) → recoveries ks L ≡ L
   unfolding recoveries
   stays [] = refl
@@ -98,6 +100,7 @@ module _ (L : List ℕ) (S : Store L) where
   moved : (s : ℕ) → Good L s → (m : List ℕ) → State L s m → Safe L m
   moved s G m T = let F = end-final s G m T in safe-by m (accepts s G m T) (F .totals) (F .free)
 
+  -- reclaim cut, recoveries cut, and the last to its end
   pub holds : (c : ℕ) (ks : List ℕ) → Safe L (failing c ks L)
   unfolding failing
   holds c ks = ⊎-elim (λ e. from-store _ e) (λ r. moved (r .0) (r .1) _ (cut-state (r .0) (r .1) ks _ (r .2))) (reach L S c)
@@ -105,5 +108,6 @@ module _ (L : List ℕ) (S : Store L) where
       from-store : (m : List ℕ) → m ≡ L → Safe L (recoveries ks m)
       from-store m e = let r : recoveries ks m ≡ L = ap (recoveries ks) e ∙ stays ks in rw r still
 
+-- the demand
 pub demand3 : Demand3
 demand3 L S c ks = holds L S c ks

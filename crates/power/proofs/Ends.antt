@@ -27,6 +27,7 @@ module _ (L : List ℕ) (s : ℕ) (G : Good L s) (small : (i : ℕ) → getD L i
   abbrev X : List Laid
   X = itemsOf (sector s L)
 
+  -- a sector of the store lies within the image
   pub room : (l : List ℕ) → length l ≡ length L → (u : ℕ) → u < n → u * 4096 + 4096 ≤ length l
   room l e u h = omega arith
 
@@ -59,9 +60,11 @@ module _ (L : List ℕ) (s : ℕ) (G : Good L s) (small : (i : ℕ) → getD L i
       seq = rw (e-others t (not-s t (T .was))) (T .seq);
     }
 
+    -- it had no items
     pub e-gone : AllFree L l → X ≡ [] → State L s le × Final L le
     e-gone F x = (gone e-side e-free (e-all F) x, gone-final L s G small le e-side e-free (e-all F) x)
 
+    -- the target has them
     pub e-done : (t q : ℕ) → Target L l t q → stateOf (sector t l) ≡ Full → raws (itemsOf (sector t l)) ≡ raws X → State L s le × Final L le
     e-done t q T m e =
         let z = e-others t (not-s t (T .was)) in

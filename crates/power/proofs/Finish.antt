@@ -24,12 +24,12 @@ use Rattle.lists.proofs.Search.{best-in, best-some, best-top, every-of, first-n
 use Rattle.lists.proofs.Out.{in-out, out-in, out-other, sum-out}
 use Rattle.lists.proofs.Member.{_∈_, true≢false}
 use Rattle.table.specs.declared.Page.{Page}
-use Rattle.table.specs.Table.{activePage, freeingPage, inSector, itemsIn, pageAt, pages, sectorsOf, sequence}
+use Rattle.table.specs.Table.{activePage, freeingPage, inSector, itemsIn, pageAt, sectorsOf, sequence}
 use Rattle.table.proofs.Sectors.{sumTo-pair}
 use Rattle.table.proofs.Records.{record-sequence}
 use Rattle.finish.specs.Finish.{afresh, after, copyOf, holdsAll, nameOf, newest, newestHolds, nextSequence, round, roundWith, sameBytes}
 use Rattle.recover.specs.Recover.{freeings}
-use Rattle.power.proofs.Plain.{finish, finishOn, finishWith, orderOn}
+use Rattle.power.proofs.Plain.{finish, finishOn, finishWith, rescan}
 use Rattle.power.proofs.Shape.{raws}
 use Rattle.power.proofs.State.{Good, Old, Side, Source, SourceRecord, TargetRecord, old-full, old-sequence}
 use Rattle.power.proofs.Same.{holds-is, same-eq, same-refl}
@@ -54,9 +54,10 @@ module _ (L : List ℕ) (s : ℕ) (G : Good L s) (r : PageRecord) (K : SourceRec
   S-sequence : (p : Page) → p ≡ S → sequence p ≡ sequenceOf (sector s L)
   S-sequence p e = ap {B = ℕ} (λ (z : Page). sequence z) e ∙ K .same-sequence
 
-  -- ---- one round
+  -- ---- one round, where S is the one Freeing page
+
   pub finish-one : (ps : List Page) (fs l : List ℕ) → S ∈ ps → ((p : Page) → p ∈ ps → freeingPage p ≡ true → p ≡ S) → freeings ps ≡ 1
-      → finishOn ps fs l ≡ (round S ps fs l) .steps ++ orderOn (pages (run ((round S ps fs l) .steps) l)) (run ((round S ps fs l) .steps) l)
+      → finishOn ps fs l ≡ (round S ps fs l) .steps ++ rescan ((round S ps fs l) .steps) l
   unfolding finishOn finish finishWith
   finish-one ps fs l m h e = rw (e, first-only freeingPage ps S m S-freeing h, append-nil)
 

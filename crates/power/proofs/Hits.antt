@@ -25,9 +25,11 @@ use Rattle.power.proofs.Idle.{newestOf}
 abbrev headWord : Found → ℕ → Step
 headWord x n = stateWord (x .sector * 4096) (x .entry) n 3 (x .entry / 16)
 
+-- one of the steps erases the header of an item that was found
 abbrev pub Hit : List Found → List Step → Type 0
 Hit fs ss = (x : Found) × (n : ℕ) × (x ∈ fs) × (1 ≤ n) × (headWord x n ∈ ss)
 
+-- in a part of the list
 pub hit-left : (fs : List Found) (a b : List Step) → Hit fs a → Hit fs (a ++ b)
 hit-left fs a b h = (h .0, h .1, h .2, h .3, in-left _ a b (h .4))
 
@@ -47,6 +49,7 @@ erasing-hit fs x n m h =
     let q : (x .entry + (n - 1)) / 16 + 1 - x .entry / 16 ≡ suc k = omega arith in
     (x, n, m, h, rw q (down-last (x .sector * 4096) (x .entry) n 3 (x .entry / 16) k))
 
+-- each has a span
 abbrev pub Spanned : List Found → Type 0
 Spanned fs = (x : Found) → x ∈ fs → 1 ≤ spanOf (x .raw)
 
@@ -113,6 +116,7 @@ module _ (fs : List Found) (sp : Spanned fs) where
   flatMap-hit g h [] = inl refl
   flatMap-hit g h (c ∷ cs) = append-hit (g c) (flatMap g cs) (h c) (flatMap-hit g h cs)
 
+  -- stage 3 makes no step, or such a one
   pub blobs-hit : (blobSteps fs ≡ []) ⊎ Hit fs (blobSteps fs)
   unfolding blobSteps
   blobs-hit = append-hit _ _ (flatMap-hit (judge fs) judge-hit _) (flatMap-hit (older fs) older-hit _)
@@ -159,6 +163,7 @@ module _ (fs : List Found) (sp : Spanned fs) where
   once-in (x ∷ xs) z (inl e) = inl e
   once-in (x ∷ xs) z (inr k) = inr (once-in xs z (keep-in _ (onceEach xs) z k .0))
 
+  -- and so does stage 4
   pub dup-hit : (duplicateSteps fs ≡ []) ⊎ Hit fs (duplicateSteps fs)
   unfolding duplicateSteps
   dup-hit = all-hit _ (λ x m. let r = flatMap-in (outdated fs) (groups fs) x (once-in (flatMap (outdated fs) (groups fs)) x m) in outdated-in (r .0) x (r .2))

@@ -30,9 +30,11 @@ use Rattle.power.proofs.Items.{both-is}
 abbrev pub tot : (List ℕ → ℕ) → List Found → ℕ
 tot f fs = sumOf (λ (x : Found). f (x .raw)) fs
 
+-- a part of version v
 abbrev pub partOf : ℕ → List ℕ → Bool
 partOf v r = isPart r && eqb (versionOf r) v
 
+-- an item of group g that stage 4 judges
 abbrev pub inGroup : ℕ → List ℕ → Bool
 inGroup g r = ranked r && eqb (groupOf r) g
 
@@ -57,6 +59,7 @@ erase-some s i n e =
     let q : (i + (n - 1)) / 16 + 1 - i / 16 ≡ suc k = omega arith in
     nil≢ (rw q at e)
 
+-- items are erased by no step only where there are none
 pub eraseAll-none : (xs : List Found) → eraseAll xs ≡ [] → xs ≡ []
 unfolding eraseAll flatMap
 eraseAll-none [] e = refl
@@ -111,6 +114,7 @@ module _ (fs : List Found) (C : Calm (λ (f : List ℕ → ℕ). tot f fs)) wher
           let c = C .not-both g in
           absurd (omega arith)
 
+  -- stage 3 makes no step
   pub blob-idle : blobSteps fs ≡ []
   unfolding blobSteps
   blob-idle =
@@ -134,6 +138,7 @@ module _ (fs : List Found) (C : Calm (λ (f : List ℕ → ℕ). tot f fs)) wher
       let c = length-sort olderThan (members g fs) in
       rw (dropLast-short (sortBy olderThan (members g fs)) (omega arith))
 
+  -- stage 4 erases nothing
   pub duplicate-idle : duplicateSteps fs ≡ []
   unfolding duplicateSteps onceEach
   duplicate-idle = rw (flatMap-none (outdated fs) (groups fs) (λ g m. outdated-none g)) (eraseAll-nil [] refl)

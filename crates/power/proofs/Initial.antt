@@ -22,9 +22,11 @@ use Rattle.item.proofs.Header.{header-length, header-small}
 use Rattle.power.proofs.Read.{Word4, state-free}
 use Rattle.power.proofs.Shape.{Shape}
 
+-- ones from byte a on
 abbrev pub Ones : List ℕ → ℕ → Type 0
 Ones T a = (i : ℕ) → a ≤ i → i < 4096 → getD T i 0 ≡ 0xFF
 
+-- the words of the header, the state word last
 abbrev pub initSteps : ℕ → List Step
 initSteps q = words 0 (header q) 1 7 ++ words 0 (header q) 0 1
 
@@ -51,6 +53,7 @@ module _ (q : ℕ) (T : List ℕ) (len : length T ≡ 4096) (on : Ones T 0) wher
   len-T1 : length T1 ≡ 4096
   len-T1 = length-run _ T ∙ len
 
+  -- the state word, and what stands behind the header
   pub low : (j : ℕ) → j < 4 → getD T2 j 0 ≡ getD (header q) j 0
   low j h =
       let z : 0 + j ≡ j = omega arith in
@@ -68,6 +71,7 @@ module _ (q : ℕ) (T : List ℕ) (len : length T ≡ 4096) (on : Ones T 0) wher
       ap (λ (r : List ℕ). getD r j 0) T2-is ∙ run-other 0 4 (words 0 (header q) 0 1) T1 j in-0 (inr (omega arith))
       ∙ run-other 4 32 (words 0 (header q) 1 7) T j in-1 (inr g) ∙ on j (omega arith) h
 
+  -- it is Active
   pub init-word : Word4 T2 0xFE
   unfolding header
   init-word = (low 0 (omega arith), low 1 (omega arith), low 2 (omega arith), low 3 (omega arith))
@@ -92,5 +96,6 @@ module _ (q : ℕ) (T : List ℕ) (len : length T ≡ 4096) (on : Ones T 0) wher
       pair (suc (suc (suc zero))) g = refl
       pair (suc (suc (suc (suc i)))) g = absurd (omega arith)
 
+  -- and nothing is laid
   pub init-shape : Shape q T2 [] 0
   init-shape = record { len = len-T2; tail = init-tail; laid = refl; empty-from = λ e a b. init-state e b; fits = omega arith; fine = tt }

@@ -19,6 +19,7 @@ use Rattle.flash.specs.Step.{sector}
 use Rattle.lists.proofs.Member.{_∈_}
 use Rattle.table.specs.Table.{itemsIn}
 
+-- two tests that hold, hold together
 pub both-is : (a b : Bool) → a ≡ true → b ≡ true → a && b ≡ true
 both-is a b p q = rw (p, q)
 
@@ -26,12 +27,14 @@ both-is a b p q = rw (p, q)
 abbrev pub rawAt : List ℕ → ℕ → List ℕ
 rawAt t i = laidAt t i .raw
 
+-- an item at entry i
 pub record IsItem (t : List ℕ) (i : ℕ) : Type 0 where
   pub is-written : stateAt t i ≡ written
   pub right : rightHeader (entryAt t i) ≡ true
   pub some : 1 ≤ spanOf (entryAt t i)
   pub ends : i + spanOf (entryAt t i) ≤ 126
 
+-- the test of it, both ways
 pub item-is : (t : List ℕ) (i : ℕ) → isItem t i ≡ true → IsItem t i
 item-is t i e =
     let s = item-span t i e in
@@ -51,10 +54,12 @@ unfolding isItem
 is-item t i h =
     both-is _ _ (both-is _ _ (eq-eqb (stateAt t i) written (h .is-written)) (h .right)) (both-is _ _ (le-leb 1 _ (h .some)) (le-leb _ 126 (h .ends)))
 
+-- a laid item that stands on the page t
 pub record Real (t : List ℕ) (x : Laid) : Type 0 where
   pub is : IsItem t (x .entry)
   pub bytes : x .raw ≡ rawAt t (x .entry)
 
+-- each item of the walk stands on its page
 pub walk-in : (t : List ℕ) (n i : ℕ) (x : Laid) → x ∈ walk t n i → Real t x
 unfolding walk
 walk-in t zero i x m = absurd m
@@ -65,6 +70,7 @@ walk-in t (suc n) i x m = go (isItem t i) refl m (walk-in t n (onFrom t i) x)
     go true q (inr k) f = f k
     go false q k f = f k
 
+-- its bytes begin with the header, so it has the header's span
 pub raw-byte : (t : List ℕ) (i j : ℕ) → IsItem t i → j < 32 → getD (rawAt t i) j 0 ≡ getD (entryAt t i) j 0
 raw-byte t i j h k =
     let a = h .some in
@@ -78,6 +84,7 @@ pub free-none : (t : List ℕ) → isFree (stateOf t) ≡ true → itemsOf t ≡
 unfolding itemsOf
 free-none t e = rw e
 
+-- of a page that is listed the walk's items are all
 pub listed-items : (u : ℕ) (l : List ℕ) → isFree (stateOf (sector u l)) ≡ false → itemsIn u l ≡ itemsOf (sector u l)
 unfolding itemsIn itemsOf
 listed-items u l e = rw e

@@ -19,6 +19,7 @@ be-lt : (r : List ℕ) → ((i : ℕ) → getD r i 0 < 256) → (at : ℕ) → b
 unfolding be
 be-lt r h at = number-lt (λ j. getD r (at + (8 - suc j)) 0) (λ j. h (at + (8 - suc j))) 8
 
+-- two halves of eight bytes
 pub key-lt : (r : List ℕ) → ((i : ℕ) → getD r i 0 < 256) → keyNumber (keyOf r) < 2 ^ 128
 unfolding keyOf
 key-lt r h = digits-lt (be-lt r h 8) (be-lt r h 16)

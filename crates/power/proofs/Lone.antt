@@ -19,9 +19,11 @@ use Rattle.table.specs.Table.{active, activePage, asFull, inSector, pages, sect
 use Rattle.table.proofs.Pages.{once, page-same, page-state, pages-in}
 use Rattle.order.specs.Order.{kept, noEmpty, orderList, orderSteps, ordered, ordering}
 
+-- one page at most is Active
 unfoldable pub Lone : List ℕ → Type 0
 Lone l = (u v : ℕ) → u < sectorsOf l → v < sectorsOf l → active (stateOf (sector u l)) ≡ true → active (stateOf (sector v l)) ≡ true → u ≡ v
 
+-- a page that is listed as Active is Active
 pub active-is : (l : List ℕ) (p : Page) → p ∈ pages l → activePage p ≡ true → active (stateOf (sector (p .sector) l)) ≡ true
 active-is l p m e = rw (page-state l p m) at e
 
@@ -32,6 +34,7 @@ keptAs a = cond (noEmpty a) (asFull a) a
 abbrev pub keptMark : Page → List Step
 keptMark a = cond (noEmpty a) (markFull (a .sector) ∷ []) []
 
+-- what stage 1 does, where a is the page that it keeps
 pub record Kept (l : List ℕ) (a : Page) (ss : List Step) (ps : List Page) : Type 0 where
   pub steps : ss ≡ keptMark a
   pub sums : (h : ℕ → ℕ) → sumOf (λ (p : Page). h (p .sector)) ps ≡ sumOf (λ (p : Page). h (p .sector)) (pages l)
@@ -44,6 +47,7 @@ module _ (l : List ℕ) (L : Lone l) (a : Page) (q : kept (pages l) ≡ some a) 
   abbrev qs : List Page
   qs = takeOut (inSector (a .sector)) (pages l)
 
+  -- the kept page is a listed Active one
   pub a-in : (a ∈ pages l) × (activePage a ≡ true)
   unfolding kept
   a-in = keep-in activePage (pages l) a (best-in _ (keep activePage (pages l)) a q)
@@ -80,6 +84,7 @@ module _ (l : List ℕ) (L : Lone l) (a : Page) (q : kept (pages l) ≡ some a) 
   sector-same true = refl
   sector-same false = refl
 
+  -- stage 1 does that
   pub kept-order : Kept l a (ordering (pages l)) (ordered (pages l))
   unfolding ordering ordered
   kept-order = rw q built

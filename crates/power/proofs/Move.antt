@@ -32,12 +32,14 @@ pub erased-blank : (t : ℕ) (l : List ℕ) → t * 4096 + 4096 ≤ length l →
 unfolding run apply
 erased-blank t l h = sector-erased l t h
 
+-- a blank sector is free
 pub blank-free : isFree (stateOf (blank 4096)) ≡ true
 blank-free = state-free (blank 4096) (blank-byte 4096 0 (omega arith))
 
 pub erase-in : (u : ℕ) → AllIn (u * 4096) (u * 4096 + 4096) (erase u ∷ [])
 erase-in u = every-one (In (u * 4096) (u * 4096 + 4096)) (erase u) (omega arith, omega arith)
 
+-- what is written to the target
 abbrev pub fill : ℕ → List Laid → List Step
 fill q xs = initSteps q ++ copies 0 0 xs
 
@@ -148,10 +150,12 @@ module _ (q : ℕ) (xs : List Laid) (F : AllFine (raws xs)) (fit : spans (raws x
         let at : sector t (run (erase s ∷ []) l2) ≡ run (fill q xs) (sector t l1) = kept t (λ e. ne (sym e)) ∙ sector-local t (fill q xs) l1 fill-fit in
         (λ u a b. kept u b ∙ others-2 (fill q xs) fill-fit u a, rw at (fill-end (sector t l1) len-t1 clear-ones), erased-blank s l2 (omega arith))
 
+    -- the end: the target has the items, and the source is blank
     pub move-end : ((u : ℕ) → (u ≡ t → ⊥) → (u ≡ s → ⊥) → sector u (run (moving s t q xs l) l) ≡ sector u l) × Ready q (raws xs) (sector t (run (moving s t q xs l) l)) × (sector s (run (moving s t q xs l) l) ≡ blank 4096)
     move-end =
         rw (moving-is, run-append (clearing t l) (shift (t * 4096) (fill q xs) ++ (erase s ∷ [])) l, run-append (shift (t * 4096) (fill q xs)) (erase s ∷ []) l1) whole
 
+    -- and every cut
     pub move-cut : (k : ℕ) → Cut s t l (run (take k (moving s t q xs l)) l)
     move-cut k = rw moving-is (⊎-elim
         (λ e. rw e (unmade (λ u a. sector-kept u t (take k (clearing t l)) l a (every-take (In (t * 4096) (t * 4096 + 4096)) k _ (clearing-in t l))) (clear-cut k)))

@@ -115,10 +115,12 @@ module _ (q : ℕ) (T : List ℕ) (ys : List (List ℕ)) (p : ℕ) (H : Shape q 
         not : p + n < 126 → Ended (run fm (run st T1))
         not h = rw (full-no 0 (p + n) (λ e. omega arith)) (unfold run in (shape-T2, inl (h, word-T2)))
 
+    -- the end: the item is laid, and the page marked Full where it is used up
     pub item-end : Ended (run (copying 0 p r) T)
     unfolding copying
     item-end = rw (run-append ws (st ++ fm) T, run-append st fm T1) end-T3
 
+    -- a cut: the item is not there, or it is, or the page is marked too
     pub item-cut : (k : ℕ) → (Shape q (run (take k (copying 0 p r)) T) ys p × Word4 (run (take k (copying 0 p r)) T) 0xFE)
         ⊎ ((Shape q (run (take k (copying 0 p r)) T) ys′ (p + n) × Word4 (run (take k (copying 0 p r)) T) 0xFE) ⊎ Ended (run (take k (copying 0 p r)) T))
     unfolding copying

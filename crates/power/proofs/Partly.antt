@@ -36,14 +36,14 @@ use Rattle.order.specs.Order.{kept, noEmpty, ordered, ordering}
 use Rattle.finish.specs.Finish.{copyOf}
 use Rattle.recover.specs.Recover.{freeings}
 use Rattle.power.proofs.State.{AllFree, Good, Old, Partial, Side, Source, SourceRecord, State, Target, TargetRecord, freeings-one, full, old-full, old-in, partly, source-in, source-record, target-apart, target-in, target-page, target-record}
-use Rattle.power.proofs.Runs.{Runs, rec-some, rescan, run-nil, run-one}
+use Rattle.power.proofs.Runs.{Runs, rec-some, run-nil, run-one}
 use Rattle.power.proofs.Lone.{Kept, Lone, kept-order, keptAs}
 use Rattle.power.proofs.Complete.{full-steps}
 use Rattle.power.proofs.Unmade.{move-runs}
 use Rattle.power.proofs.Finish.{finish-one, part-round}
 use Rattle.power.proofs.Read.{items-same, marked-drop, marked-sequence, noRoom, to-full}
 use Rattle.power.proofs.Move.{blank-free, erase-in, erased-blank}
-use Rattle.power.proofs.Plain.{finishOn, plain}
+use Rattle.power.proofs.Plain.{finishOn, plain, rescan}
 use Rattle.power.proofs.Shape.{raws}
 use Rattle.power.proofs.Ends.{e-done, one-step, room}
 use Rattle.power.proofs.Same.{copy-is}
@@ -53,6 +53,7 @@ use Rattle.power.proofs.Items.{listed-items}
 mark-in : (u b : ℕ) → AllIn (u * 4096) (u * 4096 + 4096) (pageState (u * 4096) b ∷ [])
 mark-in u b = every-one (In (u * 4096) (u * 4096 + 4096)) _ (omega arith, omega arith)
 
+-- a mark is a step on the sector's own bytes
 pub mark-sector : (t b : ℕ) (l : List ℕ) → sector t (run (pageState (t * 4096) b ∷ []) l) ≡ run (pageState 0 b ∷ []) (sector t l)
 mark-sector t b l =
     ap (λ (k : ℕ). sector t (run (pageState k b ∷ []) l)) (sym (add-zero (t * 4096)))
@@ -297,6 +298,7 @@ module _ (L : List ℕ) (s : ℕ) (G : Good L s) (small : (i : ℕ) → getD L i
         cuts-of a b zero = rw (run-nil l) state
         cuts-of a b (suc k) = rw (run-one (markFull t) (take k (erase s ∷ [])) l) (one-step L s G small lf a b k)
 
+    -- recovery from there
     pub part-runs : Runs L s l
     part-runs = go (noRoom (sector t l)) refl
       where

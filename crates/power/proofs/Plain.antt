@@ -35,14 +35,19 @@ stages ps l = let b = blobSteps (found ps l) in b ++ duplicateStage ps (run b l)
 unfoldable pub orderOn : List Page → List ℕ → List Step
 orderOn ps l = ordering ps ++ stages (ordered ps) (run (ordering ps) l)
 
--- 2, and then the scan and 1 again, as `fromFinish`
+-- what comes after the steps f of the finish stage: the scan, and 1 again
+abbrev pub rescan : List Step → List ℕ → List Step
+rescan f l = orderOn (pages (run f l)) (run f l)
+
+-- 2, and then that, as `fromFinish`
 unfoldable pub finishOn : List Page → List ℕ → List ℕ → List Step
-finishOn ps fs l = let f = finish (freeings ps) ps fs l in f ++ orderOn (pages (run f l)) (run f l)
+finishOn ps fs l = let f = finish (freeings ps) ps fs l in f ++ rescan f l
 
 unfoldable pub onward : ℕ → List Page → List ℕ → List ℕ → List Step
 onward zero ps fs l = stages ps l
 onward (suc k) ps fs l = finishOn ps fs l
 
+-- the whole list
 unfoldable pub plain : List ℕ → List Step
 plain l = ordering (pages l) ++ onward (freeings (ordered (pages l))) (ordered (pages l)) (frees l) (run (ordering (pages l)) l)
 
@@ -95,6 +100,7 @@ unfolding afterOrder onward
 onward-same zero ps fs l = stages-same ps l
 onward-same (suc k) ps fs l = finished-same ps fs l
 
+-- it is recovery's list without the stages
 pub plain-same : (l : List ℕ) → untag (recovering l) ≡ plain l
 unfolding recovering plain
 plain-same l =

@@ -51,6 +51,7 @@ module _ (L : List ℕ) (S : Store L) where
       go false e = e
       go true e = absurd (true≢false (some-is (λ (z : Page). activePage z || freeingPage z) (pages L) p m e) (S .active-or-freeing))
 
+  -- no page is Active, and none is Freeing
   pub no-active : (p : Page) → p ∈ pages L → activePage p ≡ false
   no-active p m = go (activePage p) (neither p m)
     where
@@ -93,6 +94,7 @@ module _ (L : List ℕ) (S : Store L) where
       let c = record-sequence (sector u L) f in
       omega arith
 
+  -- what the proof takes of the store, with a page s of it as source
   pub good : (s : ℕ) → s < n → isFree (stateOf (sector s L)) ≡ false → Good L s
   good s h p = record { here = h; page = p; fulls = is-full; below = below-at; unique = S .unshared }
 
@@ -121,8 +123,10 @@ module _ (L : List ℕ) (S : Store L) where
           let d : f (x .raw) ≡ 1 = rw (both-is (isPart (x .raw)) (eqb (namespaceOf (x .raw)) 0) ip (eq-eqb _ 0 z)) in
           omega arith
 
+  -- recovery makes no step on it
   pub no-step : plain L ≡ []
   no-step = no-steps L no-active no-freeing (rw (plain-same L) at (S .unchanged))
 
+  -- and so its items are calm
   pub calm-items : Calm (λ (f : List ℕ → ℕ). total f L)
   calm-items = calm-stable L (λ u h. state-of u h .0) (λ u h. state-of u h .1) tidy no-step

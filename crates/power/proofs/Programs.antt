@@ -86,6 +86,7 @@ marks-prog : (ps : List Page) (l : List ℕ) (st : Step) → st ∈ lastMarks ps
 unfolding lastMarks
 marks-prog ps l st m = let r = map-in (λ (p : Page). markFull (p .sector)) (keep (λ (p : Page). activePage p && noRoom (sector (p .sector) l)) ps) st m in rw (r .2) tt
 
+-- all of them
 pub stage-prog : (ps : List Page) (l : List ℕ) (st : Step) → st ∈ stages ps l → Prog st
 unfolding stages duplicateStage
 stage-prog ps l st m =

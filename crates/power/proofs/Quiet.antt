@@ -28,6 +28,7 @@ use Rattle.power.proofs.Plain.{onward, orderOn, plain, stages}
 use Rattle.power.proofs.Calm.{Tidy, calm}
 use Rattle.power.proofs.Totals.{found-total, total-found, total-walked, walked}
 
+-- calm is a fact of the sums alone
 pub calm-same : (S T : (List ℕ → ℕ) → ℕ) → ((f : List ℕ → ℕ) → S f ≡ T f) → Calm T → Calm S
 calm-same S T h C = let e : S ≡ T = fun-ext h in rw e C
 
@@ -38,6 +39,7 @@ unfolding stages duplicateStage run lastMarks
 stages-idle ps l C h =
     rw (blob-idle (found ps l) C, duplicate-idle (found ps l) C, keep-none (λ (p : Page). (activePage p && noRoom (sector (p .sector) l))) ps h)
 
+-- where stages 3 and 4 make no step, nothing was to be erased
 pub idle-stages : (ps : List Page) (l : List ℕ) → stages ps l ≡ [] → (blobSteps (found ps l) ≡ []) × (duplicateSteps (found ps l) ≡ [])
 unfolding stages duplicateStage run
 idle-stages ps l e =
@@ -45,6 +47,7 @@ idle-stages ps l e =
     let d = nil-right (blobSteps (found ps l)) _ e in
     (b, nil-left _ _ (rw b at d))
 
+-- no page counts as Freeing
 pub freeings-none : (ps : List Page) → ((p : Page) → p ∈ ps → freeingPage p ≡ false) → freeings ps ≡ 0
 unfolding freeings
 freeings-none ps h = sum-zero (λ (p : Page). one (freeingPage p)) ps (λ p m. rw (h p m))
@@ -73,6 +76,7 @@ module _ (l : List ℕ) (R : Rest l) where
   unfolding Lone
   lone-rest = R .only
 
+  -- stage 1 has nothing to do there
   pub rest-order : Ordered l (ordering (pages l)) (ordered (pages l))
   rest-order = go (kept (pages l)) refl
     where
@@ -125,6 +129,7 @@ stage-of : (l : List ℕ) → ordering (pages l) ≡ [] → ordered (pages l) �
 unfolding plain run onward
 stage-of l a o z e = rw (a, o, z) at e
 
+-- so its items are calm
 pub calm-stable : (l : List ℕ) → ((u : ℕ) → u < sectorsOf l → active (stateOf (sector u l)) ≡ false)
     → ((u : ℕ) → u < sectorsOf l → freeing (stateOf (sector u l)) ≡ false)
     → Tidy (found (pages l) l) → plain l ≡ [] → Calm (λ (f : List ℕ → ℕ). total f l)

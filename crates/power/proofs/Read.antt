@@ -51,6 +51,7 @@ module _ (T T′ : List ℕ) (e : drop 32 T′ ≡ drop 32 T) where
   walk-same zero i = refl
   walk-same (suc n) i = rw (item-same i, at-same i, walk-same n _)
 
+  -- the items, of a page and of a free sector
   pub items-same : isFree (stateOf T′) ≡ isFree (stateOf T) → itemsOf T′ ≡ itemsOf T
   unfolding itemsOf
   items-same f = rw (f, walk-same 126 0)
@@ -61,9 +62,11 @@ module _ (T T′ : List ℕ) (e : part T′ 4 28 ≡ part T 4 28) where
   number-same : (k n : ℕ) → k + n ≤ 28 → le T′ (4 + k) n ≡ le T (4 + k) n
   number-same k n h = sym (le-part T′ 4 28 k n h) ∙ ap (λ (r : List ℕ). le r k n) e ∙ le-part T 4 28 k n h
 
+  -- the sequence
   pub sequence-same : sequenceOf T′ ≡ sequenceOf T
   sequence-same = number-same 0 4 (omega arith)
 
+  -- whether the header is right
   pub right-same : headerRight T′ ≡ headerRight T
   unfolding headerRight
   right-same =
@@ -73,6 +76,7 @@ module _ (T T′ : List ℕ) (e : part T′ 4 28 ≡ part T 4 28) where
 
 -- ---- the state: by the state word's four bytes and the header
 
+-- the state word is b with three bytes of ones
 abbrev pub Word4 : List ℕ → ℕ → Type 0
 Word4 T b = (getD T 0 0 ≡ b) × (getD T 1 0 ≡ 0xFF) × (getD T 2 0 ≡ 0xFF) × (getD T 3 0 ≡ 0xFF)
 
@@ -80,6 +84,7 @@ Word4 T b = (getD T 0 0 ≡ b) × (getD T 1 0 ≡ 0xFF) × (getD T 2 0 ≡ 0xFF)
 abbrev upper : List ℕ → Bool
 upper T = eqb (getD T 1 0) 0xFF && (eqb (getD T 2 0) 0xFF && eqb (getD T 3 0) 0xFF)
 
+-- the state that the word says
 abbrev pub wordBy : ℕ → Bool → PageState
 wordBy b c = cond c (cond (eqb b 0xFE) Active (cond (eqb b 0xFC) Full (cond (eqb b 0xF8) Freeing Corrupt))) Corrupt
 
@@ -102,6 +107,7 @@ state-code b false true z p q r M f e = rw (← e) (eqb-true b 0xFC q)
 state-code b false false true p q r M f e = rw (← e) (eqb-true b 0xF8 r)
 state-code b false false false p q r M f e = absurd (true≢false (ap isFree (sym e)) f)
 
+-- a page has a right header, and its state's word
 pub state-inv : (T : List ℕ) (M : PageState) → stateOf T ≡ M → isFree M ≡ false → (headerRight T ≡ true) × Word4 T (stateByte M)
 unfolding stateOf
 state-inv T M e f = used (allOnes T) e
@@ -132,6 +138,7 @@ not-ones T b w ne = go (allOnes T) refl
     go false e = e
     go true e = absurd (ne (sym (w .0) ∙ ones-byte T e 0 (long T (w .1))))
 
+-- and such bytes are a page in that state
 pub state-is : (T : List ℕ) (b : ℕ) → (b ≡ 0xFF → ⊥) → headerRight T ≡ true → Word4 T b → stateOf T ≡ wordBy b true
 unfolding stateOf
 state-is T b ne g w = rw (not-ones T b w ne, g) (word-by T ∙ rw (w .0, w .1, w .2, w .3))
@@ -149,6 +156,7 @@ state-free T e = go (allOnes T) (headerRight T) (upper T) refl
 
 -- ---- marking
 
+-- steps leave what stands behind them
 pub drop-stays : (a b p : ℕ) (ss : List Step) (l : List ℕ) → AllIn a b ss → b ≤ p → drop p (run ss l) ≡ drop p l
 drop-stays a b p ss l h k =
     ext-getD 0 _ _ (simp (length-drop, length-run)) (λ i g. getD-drop p (run ss l) i 0 ∙ run-other a b ss l (p + i) h (inr (omega arith)) ∙ sym (getD-drop p l i 0))
@@ -160,6 +168,7 @@ module _ (T : List ℕ) (b : ℕ) (h : 4 ≤ length T) where
   mark-in : AllIn 0 4 (pageState 0 b ∷ [])
   mark-in = every-one (In 0 4) _ (omega arith, omega arith)
 
+  -- a mark leaves all but the state word
   pub marked-drop : (p : ℕ) → 4 ≤ p → drop p marked ≡ drop p T
   marked-drop p k = drop-stays 0 4 p (pageState 0 b ∷ []) T mark-in k
 

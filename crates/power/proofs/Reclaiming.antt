@@ -144,6 +144,7 @@ module _ (L : List ℕ) (S : Store L) where
   unfolding chosen
   chosen-in x e = keep-in candidate (pages L) x (best-in _ _ x e) .0
 
+  -- wherever it is cut
   pub reach : (c : ℕ) → Reach (run (take c (reclaiming L)) L)
   unfolding reclaiming plan planSteps
   reach c = whole (wholeSectors L)

@@ -11,6 +11,7 @@ use Rattle.power.proofs.Steps.{done-final, gone-final, same-final}
 use Rattle.power.proofs.Partly.{part-runs}
 
 module _ (L : List ℕ) (s : ℕ) (G : Good L s) (small : (i : ℕ) → getD L i 0 < 256) where
+  -- from whichever image it is begun
   pub runs : (l : List ℕ) → State L s l → Runs L s l
   runs l (same k) = rw k (idle-runs L s L (same refl) (same-final L s G small))
   runs l (junk D R t h w F) = junk-runs L s G small l D R t h w F

@@ -12,7 +12,7 @@ use Rattle.recover.specs.Recover.{freeings}
 use Rattle.power.specs.Demand3.{total}
 use Rattle.power.proofs.Quiet.{calm-same, order-idle, order-none, plain-rest}
 use Rattle.power.proofs.Idle.{Calm}
-use Rattle.power.proofs.Plain.{finishOn, onward, orderOn, plain}
+use Rattle.power.proofs.Plain.{finishOn, onward, plain, rescan}
 use Rattle.power.proofs.State.{State}
 use Rattle.power.proofs.Steps.{Final}
 
@@ -21,10 +21,12 @@ pub rec-none : (l : List ℕ) → kept (pages l) ≡ none → freeings (pages l)
 unfolding plain onward run
 rec-none l e z = let o = order-none l e in rw (o .0, o .1, z)
 
+-- where one page is Active
 pub rec-some : (l : List ℕ) → freeings (ordered (pages l)) ≡ 1 → plain l ≡ ordering (pages l) ++ finishOn (ordered (pages l)) (frees l) (run (ordering (pages l)) l)
 unfolding plain onward
 rec-some l z = rw z
 
+-- the first step, and none
 pub run-one : (e : Step) (ss : List Step) (l : List ℕ) → run (e ∷ ss) l ≡ run ss (run (e ∷ []) l)
 unfolding run
 run-one e ss l = refl
@@ -32,10 +34,6 @@ run-one e ss l = refl
 pub run-nil : (l : List ℕ) → run [] l ≡ l
 unfolding run
 run-nil l = refl
-
--- what comes after the steps f of the finish stage: the scan, and stage 1 again
-abbrev pub rescan : List Step → List ℕ → List Step
-rescan f l = orderOn (pages (run f l)) (run f l)
 
 -- the steps up to the end of the finish stage: every cut of them is one of the images, and at their end the items are those of the store
 pub record Runs (L : List ℕ) (s : ℕ) (l : List ℕ) : Type 0 where
@@ -58,6 +56,5 @@ idle-runs L s l S F =
 pub calm-runs : (L : List ℕ) (s : ℕ) → Calm (λ (f : List ℕ → ℕ). total f L) → (l : List ℕ) (R : Runs L s l) → plain l ≡ R .steps
 calm-runs L s C l R =
     let F = R .end in
-    let m = run (R .steps) l in
     let c = calm-same (λ (f : List ℕ → ℕ). total f (run (R .steps) l)) (λ (f : List ℕ → ℕ). total f L) (F .totals) C in
     R .is ∙ rw (order-idle (run (R .steps) l) (F .rest) c) (append-nil (R .steps))

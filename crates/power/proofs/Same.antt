@@ -13,6 +13,7 @@ use Rattle.lists.proofs.Member.{_∈_, true≢false}
 use Rattle.finish.specs.Finish.{copyOf, holdsAll, nameOf, sameBytes}
 use Rattle.power.proofs.Shape.{raws}
 
+-- the test of equal bytes, both ways
 pub same-refl : (xs : List ℕ) → sameBytes xs xs ≡ true
 unfolding sameBytes
 same-refl [] = refl
@@ -37,6 +38,7 @@ pub copy-is : (ys xs : List Laid) → ((y : Laid) → y ∈ ys → (x : Laid) ×
 unfolding copyOf
 copy-is ys xs h = every-is _ ys (λ y m. let r = h y m in some-is _ xs (r .0) (r .1) (same-of (take 32) (y .raw) (r .0 .raw) (r .2)))
 
+-- a page with the same items holds each of them
 pub holds-is : (ys xs : List Laid) → raws ys ≡ raws xs → holdsAll ys xs ≡ true
 unfolding holdsAll
 holds-is ys xs e = every-is _ xs (λ x m. let k : x .raw ∈ raws ys = rw e (in-map (λ (i : Laid). i .raw) xs x m) in let r = map-in (λ (i : Laid). i .raw) ys (x .raw) k in

@@ -41,10 +41,12 @@ pub record Fine (r : List ℕ) : Type 0 where
   pub long : length r ≡ spanOf r * 32
   pub small : (i : ℕ) → getD r i 0 < 256
 
+-- each of them
 abbrev pub AllFine : List (List ℕ) → Type 0
 AllFine [] = Unit {0}
 AllFine (r ∷ rs) = Fine r × AllFine rs
 
+-- of two lists put together
 pub fine-append : (a b : List (List ℕ)) → AllFine a → AllFine b → AllFine (a ++ b)
 fine-append [] b f g = g
 fine-append (r ∷ a) b f g = (f .0, fine-append a b (f .1) g)
@@ -53,6 +55,7 @@ laid-le : (T : List ℕ) (j : ℕ) (rs : List (List ℕ)) (p : ℕ) → Rows T j
 laid-le T j [] p e = omega arith
 laid-le T j (r ∷ rs) p e = let a = laid-le T (j + spanOf r) rs p (e .2) in omega arith
 
+-- rows stay where their states and bytes do
 pub laid-keep : (T T′ : List ℕ) (p : ℕ) → length T′ ≡ length T → ((e : ℕ) → e < p → stateAt T′ e ≡ stateAt T e)
     → ((i : ℕ) → 64 ≤ i → i < 64 + p * 32 → getD T′ i 0 ≡ getD T i 0)
     → (j : ℕ) (rs : List (List ℕ)) → AllFine rs → Rows T j rs p → Rows T′ j rs p
@@ -65,6 +68,7 @@ laid-keep T T′ p n st by j (r ∷ rs) f e =
       laid-keep T T′ p n st by (j + spanOf r) rs (f .1) (e .2),
     )
 
+-- one item more
 pub laid-snoc : (T : List ℕ) (j : ℕ) (rs : List (List ℕ)) (p : ℕ) (r : List ℕ) → Rows T j rs p → stateAt T p ≡ written
     → part T (64 + p * 32) (spanOf r * 32) ≡ r → Rows T j (rs ++ (r ∷ [])) (p + spanOf r)
 laid-snoc T j [] p r e a b = (rw e a, rw e b, rw e)
@@ -78,11 +82,13 @@ empty-item T i h = go (isItem T i) refl
     go false q = q
     go true q = let r = item-is T i q in let a = r .some in let b = r .ends in let c = h (omega arith) in let d = r .is-written in absurd (omega arith)
 
+-- the walk finds nothing among Empty entries
 pub walk-empty : (T : List ℕ) (n i : ℕ) → ((e : ℕ) → i ≤ e → e < 126 → stateAt T e ≡ empty) → walk T n i ≡ []
 unfolding walk
 walk-empty T zero i h = refl
 walk-empty T (suc n) i h = rw (empty-item T i (h i (omega arith))) (walk-empty T n (i + 1) (λ e a. h e (omega arith)))
 
+-- and it finds the rows, one after the other
 pub walk-laid : (T : List ℕ) (p n j : ℕ) (rs : List (List ℕ)) → 126 ≤ j + n → p ≤ 126 → ((e : ℕ) → p ≤ e → e < 126 → stateAt T e ≡ empty) → AllFine rs
     → Rows T j rs p → raws (walk T n j) ≡ rs
 unfolding walk
@@ -124,15 +130,18 @@ module _ (q : ℕ) (T : List ℕ) (ys : List (List ℕ)) (p : ℕ) (H : Shape q 
   shape-right : headerRight T ≡ true
   shape-right = right-same (header q) T (H .tail) ∙ header-right q
 
+  -- with the state word it is a page
   pub shape-active : Word4 T 0xFE → stateOf T ≡ Active
   shape-active w = state-is T 0xFE (λ e. omega arith) shape-right w
 
   pub shape-full : Word4 T 0xFC → stateOf T ≡ Full
   shape-full w = state-is T 0xFC (λ e. omega arith) shape-right w
 
+  -- with the sequence that its header says
   pub shape-sequence : q < 2 ^ 32 → sequenceOf T ≡ q
   shape-sequence h = sequence-same (header q) T (H .tail) ∙ header-sequence q h
 
+  -- and its items are those that were laid
   pub shape-items : isFree (stateOf T) ≡ false → raws (itemsOf T) ≡ ys
   unfolding itemsOf
   shape-items f = rw f (walk-laid T p 126 0 ys (omega arith) (H .fits) (H .empty-from) (H .fine) (H .laid))
@@ -155,6 +164,7 @@ shape-keep q T T′ ys p H n t st by = record {
   fine = H .fine;
 }
 
+-- steps behind it leave the state word
 pub word-keep : (ss : List Step) (T : List ℕ) (a b x : ℕ) → AllIn a b ss → 4 ≤ a → Word4 T x → Word4 (run ss T) x
 word-keep ss T a b x i h w = (
   run-other a b ss T 0 i (inl (omega arith)) ∙ w .0,

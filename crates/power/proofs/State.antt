@@ -57,16 +57,24 @@ pub record Partial (S T : List ℕ) : Type 0 where
   pub sub : (y : Laid) → y ∈ itemsOf T → (x : Laid) × (x ∈ itemsOf S) × (y .raw ≡ x .raw)
   pub complete : noRoom T ≡ true → raws (itemsOf T) ≡ raws (itemsOf S)
 
+-- an Active page with an Empty entry, or a Full one: stage 1 leaves it
 abbrev pub Settled : List ℕ → Type 0
 Settled T = ((stateOf T ≡ Active) × (noRoom T ≡ false)) ⊎ (stateOf T ≡ Full)
 
+-- the images: none of them fixes the target or its sequence, so recovery may take another
 pub data State (L : List ℕ) (s : ℕ) (l : List ℕ) : Type 0 where
+  -- the store as it was
   same : l ≡ L → State L s l
+  -- the source is marked Freeing; no target is made yet, whatever was written to its sector
   junk : Side L l s → Source L l s → (t : ℕ) → t < sectorsOf L → isFree (stateOf (sector t L)) ≡ true → AllFree L l → State L s l
+  -- the target is Active: items of the source, and all of them where no entry is Empty
   partly : (t q : ℕ) → Side L l s → Source L l s → Target L l t q → stateOf (sector t l) ≡ Active → Partial (sector s L) (sector t l) → State L s l
+  -- the target is Full, with all of them
   full : (t q : ℕ) → Side L l s → Source L l s → Target L l t q → stateOf (sector t l) ≡ Full → raws (itemsOf (sector t l)) ≡ raws (itemsOf (sector s L)) → State L s l
+  -- the source is erased, and the target has its items
   done : (t q : ℕ) → Side L l s → isFree (stateOf (sector s l)) ≡ true → Target L l t q → Settled (sector t l)
       → raws (itemsOf (sector t l)) ≡ raws (itemsOf (sector s L)) → State L s l
+  -- the source is erased, and had none
   gone : Side L l s → isFree (stateOf (sector s l)) ≡ true → AllFree L l → itemsOf (sector s L) ≡ [] → State L s l
 
 -- what is known of the store at the start
@@ -83,16 +91,18 @@ pub record Good (L : List ℕ) (s : ℕ) : Type 0 where
 pub target-apart : (L l : List ℕ) (t q : ℕ) → Target L l t q → (u : ℕ) → isFree (stateOf (sector u L)) ≡ false → u ≡ t → ⊥
 target-apart L l t q T u e k = true≢false (T .was) (rw k at e)
 
--- the record of the source, and of a target in the state M
+-- what the list says of the source
 pub record SourceRecord (L : List ℕ) (s : ℕ) (r : PageRecord) : Type 0 where
   pub is-freeing : r .state ≡ Freeing
   pub same-sequence : r .sequence ≡ sequenceOf (sector s L)
 
+-- and of a target in the state M
 pub record TargetRecord (M : PageState) (q : ℕ) (r : PageRecord) : Type 0 where
   pub in-state : r .state ≡ M
   pub has-sequence : r .sequence ≡ q
 
 module _ (L : List ℕ) (s : ℕ) where
+  -- a page of the store that is not the source, listed as it was
   abbrev pub Old : Page → Type 0
   Old p = (p ≡ pageAt (p .sector) L) × (p .sector < sectorsOf L) × (p .sector ≡ s → ⊥) × (isFree (stateOf (sector (p .sector) L)) ≡ false)
 
@@ -101,13 +111,16 @@ module _ (L : List ℕ) (s : ℕ) where
   old-sequence p k = ap {B = ℕ} (λ (z : Page). sequence z) (k .0) ∙ record-sequence (sector (p .sector) L) (k .3)
 
   module _ (G : Good L s) where
+    -- an old page is Full
     pub old-full : (p : Page) → Old p → p .seen .state ≡ Full
     old-full p k = ap {B = PageState} (λ (z : Page). z .seen .state) (k .0) ∙ record-state (sector (p .sector) L) ∙ G .fulls (p .sector) (k .1) (k .3)
 
     module _ (l : List ℕ) (D : Side L l s) where
+      -- there are as many sectors
       pub n-same : sectorsOf l ≡ sectorsOf L
       n-same = ap (λ (k : ℕ). k / 4096) (D .len)
 
+      -- an old page is listed as it was
       pub old-page : (u : ℕ) → u < sectorsOf L → (u ≡ s → ⊥) → isFree (stateOf (sector u L)) ≡ false → pageAt u l ≡ pageAt u L
       old-page u h ne e = ap (λ (T : List ℕ). record { sector = u; seen = recordOf T }) (D .kept u h ne e)
 
@@ -121,6 +134,7 @@ module _ (L : List ℕ) (s : ℕ) where
           let h : p .sector < sectorsOf L = rw n-same at (r .1) in
           (r .0 ∙ old-page (p .sector) h ne e, h, ne, e)
 
+      -- the source and the target in the list
       pub source-record : Source L l s → SourceRecord L s (recordOf (sector s l))
       source-record S = record { is-freeing = record-state (sector s l) ∙ S .state; same-sequence = record-sequence (sector s l) (rw (S .state)) ∙ S .seq }
 
@@ -146,12 +160,14 @@ module _ (L : List ℕ) (s : ℕ) where
       at-sector : (p : Page) → p ∈ pages l → (u : ℕ) → p .sector ≡ u → p ≡ pageAt u l
       at-sector p m u e = pages-in l p m .0 ∙ ap (λ (v : ℕ). pageAt v l) e
 
+      -- without a target, a listed page is the source or an old one
       pub junk-page : AllFree L l → (p : Page) → p ∈ pages l → (p ≡ pageAt s l) ⊎ Old p
       junk-page F p m = ⊎-elim (λ k. ⊎-elim (λ e. inl (at-sector p m s e)) (λ o. inr o) k) (λ k. absurd (bad k)) (split p m)
         where
           bad : isFree (stateOf (sector (p .sector) L)) ≡ true → ⊥
           bad k = let r = pages-in l p m in true≢false (F (p .sector) (rw n-same at (r .1)) k) (r .2)
 
+      -- with one, it is one of the three
       pub target-page : (t q : ℕ) → Target L l t q → (p : Page) → p ∈ pages l → (p ≡ pageAt s l) ⊎ ((p ≡ pageAt t l) ⊎ Old p)
       target-page t q T p m = ⊎-elim (λ k. ⊎-elim (λ e. inl (at-sector p m s e)) (λ o. inr (inr o)) k) (λ k. inr (inl (at (eqb (p .sector) t) refl k))) (split p m)
         where

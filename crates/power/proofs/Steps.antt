@@ -36,6 +36,7 @@ use Rattle.power.proofs.Totals.{onSector, total-sectors}
 abbrev pub freeAt : List ℕ → ℕ → ℕ
 freeAt l u = one (isFree (stateOf (sector u l)))
 
+-- a free sector is neither Active nor Freeing
 pub free-neither : (M : PageState) → isFree M ≡ true → (active M ≡ false) × (freeing M ≡ false)
 free-neither Blank e = (refl, refl)
 free-neither Corrupt e = (refl, refl)
@@ -46,6 +47,7 @@ free-neither Freeing e = absurd (true≢false e refl)
 raws-sum : (f : List ℕ → ℕ) (xs ys : List Laid) → raws xs ≡ raws ys → sumOf (λ (i : Laid). f (i .raw)) xs ≡ sumOf (λ (i : Laid). f (i .raw)) ys
 raws-sum f xs ys e = sym (sum-map f (λ (i : Laid). i .raw) xs) ∙ ap (sumOf f) e ∙ sum-map f (λ (i : Laid). i .raw) ys
 
+-- recovery has done with the image, and it holds what the store L held
 pub record Final (L m : List ℕ) : Type 0 where
   pub len : length m ≡ length L
   pub rest : Rest m
@@ -62,6 +64,7 @@ module _ (L : List ℕ) (s : ℕ) (G : Good L s) (small : (i : ℕ) → getD L i
   room : (u : ℕ) → u < n → u * 4096 + 4096 ≤ length L
   room u h = omega arith
 
+  -- the source's items fit on a page
   pub X-fine : AllFine (raws X) × (spans (raws X) ≤ 126)
   X-fine = items-fine (sector s L) (length-sector s L ∙ (let r = room s (G .here) in omega arith)) small-s
     where
@@ -93,6 +96,7 @@ module _ (L : List ℕ) (s : ℕ) (G : Good L s) (small : (i : ℕ) → getD L i
         rest = λ u h k f. rw (o u k (λ z. true≢false (rw z at f) (G .page))) (F u h f);
       }
 
+      -- each cut of a move is one of the images
       pub cut-state : Cut q X (X-fine .0) (X-fine .1) s t l m → State L s m
       cut-state (unmade o f) = junk (side-of (λ u a b. o u a)) (source-of o) t ht was (λ u h e. free-at u h e (eqb u t) refl)
         where
@@ -166,6 +170,7 @@ module _ (L : List ℕ) (s : ℕ) (G : Good L s) (small : (i : ℕ) → getD L i
         ⊎-elim (λ k. free-neither (stateOf (sector u m)) (at-s u k) .1)
         (λ k. ⊎-elim (λ z. at-t u z W) (λ z. ⊎-elim (λ w. rw (w .2)) (λ w. free-neither (stateOf (sector u m)) (w .0) .1) z) k) (which u h)
 
+    -- the target holds the source's items: the sums are the store's
     pub done-final : Final L m
     done-final = record {
       len = D .len;
@@ -217,6 +222,7 @@ module _ (L : List ℕ) (s : ℕ) (G : Good L s) (small : (i : ℕ) → getD L i
         ⊎-elim (λ k. free-neither (stateOf (sector u m)) (ap (λ (v : ℕ). isFree (stateOf (sector v m))) k ∙ fs))
         (λ k. ⊎-elim (λ z. rw (z .2) (refl, refl)) (λ z. free-neither (stateOf (sector u m)) (z .0)) k) (sort u h)
 
+    -- the source had no items: the sums are the store's
     pub gone-final : Final L m
     gone-final =
         let nm : sectorsOf m ≡ n = ap (λ (k : ℕ). k / 4096) (D .len) in
@@ -242,6 +248,7 @@ module _ (L : List ℕ) (s : ℕ) (G : Good L s) (small : (i : ℕ) → getD L i
         free-same : (u : ℕ) → u < n → (u ≡ s → ⊥) → freeAt L u ≡ freeAt m u
         free-same u h a = ⊎-elim (λ k. absurd (a k)) (λ k. ⊎-elim (λ w. rw (w .1)) (λ w. rw (w .0, w .1)) k) (sort u h)
 
+  -- the store itself
   pub full-or-free : (u : ℕ) → u < n → (active (stateOf (sector u L)) ≡ false) × (freeing (stateOf (sector u L)) ≡ false)
   full-or-free u h = go (isFree (stateOf (sector u L))) refl
     where
@@ -249,6 +256,7 @@ module _ (L : List ℕ) (s : ℕ) (G : Good L s) (small : (i : ℕ) → getD L i
       go true e = free-neither (stateOf (sector u L)) e
       go false e = rw (G .fulls u h e) (refl, refl)
 
+  -- is such an image
   pub same-final : Final L L
   same-final = record {
     len = refl;

@@ -91,6 +91,7 @@ rec-is : (l : List ℕ) → kept (pages l) ≡ none → freeings (pages l) ≡ 0
 unfolding plain run onward
 rec-is l e z = let o = order-none l e in rw (o .0, o .1, z)
 
+-- so the list of steps is empty
 pub no-steps : (L : List ℕ) → ((p : Page) → p ∈ pages L → activePage p ≡ false) → ((p : Page) → p ∈ pages L → freeingPage p ≡ false) → run (plain L) L ≡ L → plain L ≡ []
 no-steps L na nf e =
     let r = rec-is L (no-kept L na) (freeings-none (pages L) nf) in

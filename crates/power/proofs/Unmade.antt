@@ -21,11 +21,11 @@ use Rattle.table.specs.Table.{activePage, freeingPage, frees, pageAt, pages, se
 use Rattle.table.proofs.Pages.{frees-in, in-frees}
 use Rattle.finish.specs.Finish.{round}
 use Rattle.recover.specs.Recover.{freeings}
-use Rattle.power.proofs.Runs.{Runs, rec-none, rescan}
+use Rattle.power.proofs.Runs.{Runs, rec-none}
 use Rattle.power.proofs.Quiet.{no-kept}
 use Rattle.power.proofs.Finish.{Seq, finish-one, junk-round}
 use Rattle.power.proofs.Move.{blank-free, move-cut, move-end}
-use Rattle.power.proofs.Plain.{plain}
+use Rattle.power.proofs.Plain.{plain, rescan}
 use Rattle.power.proofs.Shape.{raws}
 use Rattle.power.proofs.Ends.{e-gone, one-step, room}
 use Rattle.power.proofs.State.{AllFree, Good, Old, Side, Source, SourceRecord, State, freeings-one, junk, junk-page, old-full, old-in, source-in, source-record}
@@ -107,6 +107,7 @@ module _ (L : List ℕ) (s : ℕ) (G : Good L s) (small : (i : ℕ) → getD L i
             done-final L s G small m t q (side-of L s G small l D R F t q h w Q m ln (E .0)) (rw (E .2) blank-free)
             (target-of L s G small l D R F t q h w Q m ln (E .0) (ready-seq q X (sector t m) qs (E .1))) (ready-settled q X (sector t m) (E .1)) (ready-items q X (sector t m) (E .1))
 
+    -- recovery from there
     pub junk-runs : Runs L s l
     junk-runs =
         let la = last-some (frees l) t0 (in-frees l t0 (rw nl h0) (F t0 h0 w0)) in

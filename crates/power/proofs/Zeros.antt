@@ -44,6 +44,7 @@ put-zero base e i b l z = go (eqb j i) refl
     go true q = ⊎-elim (λ h. outside h) (λ h. inside (eqb-true j i q) h) (le-or-gt (length l) i)
     go false q = state-byte base e l (put l i b) (put-other l i b j (eqb-false j i q)) ∙ z
 
+-- the step programs a word
 abbrev pub Prog : Step → Type 0
 Prog (program at b0 b1 b2 b3) = Unit {0}
 Prog (erase s) = ⊥

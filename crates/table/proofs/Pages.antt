@@ -22,6 +22,7 @@ use Rattle.table.proofs.Sectors.{sumTo, sumTo-only}
 use Rattle.table.proofs.Records.{record-empty, record-erased}
 
 module _ (l : List ℕ) where
+  -- a page of the list is a sector that is not free, with its record
   pub pagesTo-in : (n : ℕ) (p : Page) → p ∈ pagesTo l n → (p ≡ pageAt (p .sector) l) × (p .sector < n) × (isFree (stateOf (sector (p .sector) l)) ≡ false)
   unfolding pagesTo
   pagesTo-in zero p m = absurd m
@@ -34,6 +35,7 @@ module _ (l : List ℕ) where
       go false q (inl r) = rw r (refl, omega arith, q)
       go false q (inr k) = absurd k
 
+  -- each such sector is in the list
   pub in-pagesTo : (n u : ℕ) → u < n → isFree (stateOf (sector u l)) ≡ false → pageAt u l ∈ pagesTo l n
   unfolding pagesTo
   in-pagesTo zero u h e = absurd (omega arith)
@@ -44,6 +46,7 @@ module _ (l : List ℕ) where
       go true q ih = let r = eqb-true u n q in in-right (pageAt u l) (pagesTo l n) _ (rw (← r, e) (inl refl))
       go false q ih = let r : (u ≡ n → ⊥) = eqb-false u n q in in-left (pageAt u l) (pagesTo l n) _ (ih (omega arith) e)
 
+  -- a sum over the list is one over the sectors
   pub sum-pagesTo : (f : Page → ℕ) (n : ℕ) → sumOf f (pagesTo l n) ≡ sumTo (λ (u : ℕ). cond (isFree (stateOf (sector u l))) 0 (f (pageAt u l))) n
   unfolding pagesTo sumTo sumOf
   sum-pagesTo f zero = refl
@@ -55,6 +58,7 @@ module _ (l : List ℕ) where
       go true q = omega arith
       go false q = omega arith
 
+  -- the free list has the free sectors, and all of them
   pub freesTo-in : (n u : ℕ) → u ∈ freesTo l n → (u < n) × (isFree (stateOf (sector u l)) ≡ true)
   unfolding freesTo
   freesTo-in zero u m = absurd m
@@ -76,6 +80,7 @@ module _ (l : List ℕ) where
       go true q ih = let r = eqb-true u n q in in-right u (freesTo l n) _ (rw (← r, e) (inl refl))
       go false q ih = let r : (u ≡ n → ⊥) = eqb-false u n q in in-left u (freesTo l n) _ (ih (omega arith) e)
 
+  -- the same of all sectors of the image
   pub pages-in : (p : Page) → p ∈ pages l → (p ≡ pageAt (p .sector) l) × (p .sector < sectorsOf l) × (isFree (stateOf (sector (p .sector) l)) ≡ false)
   unfolding pages
   pages-in p m = pagesTo-in (sectorsOf l) p m

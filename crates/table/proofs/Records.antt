@@ -8,6 +8,7 @@ use Rattle.page.specs.Record.{recordOf, usedRecord}
 use Rattle.page.specs.State.{isFree, sequenceOf, stateOf}
 
 module _ (t : List ℕ) where
+  -- the record of a sector that is not free, and its fields
   pub record-page : isFree (stateOf t) ≡ false → recordOf t ≡ usedRecord (stateOf t) t
   unfolding recordOf
   record-page e = rw e

@@ -11,11 +11,13 @@ unfoldable pub sumTo : (ℕ → ℕ) → ℕ → ℕ
 sumTo f zero = 0
 sumTo f (suc n) = sumTo f n + f n
 
+-- a sum goes by its values
 pub sumTo-ext : (f g : ℕ → ℕ) (n : ℕ) → ((u : ℕ) → u < n → f u ≡ g u) → sumTo f n ≡ sumTo g n
 unfolding sumTo
 sumTo-ext f g zero h = refl
 sumTo-ext f g (suc n) h = let a = sumTo-ext f g n (λ u k. h u (omega arith)) in let b = h n (omega arith) in omega arith
 
+-- each value is in it
 pub sumTo-ge : (f : ℕ → ℕ) (n u : ℕ) → u < n → f u ≤ sumTo f n
 unfolding sumTo
 sumTo-ge f zero u h = absurd (omega arith)
@@ -32,6 +34,7 @@ off s f u = cond (eqb u s) 0 (f u)
 pub off-same : (s : ℕ) (f : ℕ → ℕ) (n : ℕ) → n ≤ s → sumTo (off s f) n ≡ sumTo f n
 off-same s f n h = sumTo-ext (off s f) f n (λ u k. rw (ne-eqb u s (λ e. omega arith)))
 
+-- a value, and the rest
 pub sumTo-off : (s : ℕ) (f : ℕ → ℕ) (n : ℕ) → s < n → sumTo f n ≡ f s + sumTo (off s f) n
 unfolding sumTo
 sumTo-off s f zero h = absurd (omega arith)
@@ -58,6 +61,7 @@ module _ (f g : ℕ → ℕ) (n s t : ℕ) (hs : s < n) (ht : t < n) (ne : s ≡
       let c : off s h t ≡ h t = rw (ne-eqb t s (λ e. ne (sym e))) in
       omega arith
 
+  -- f and g are as great at the two places together, so in all
   pub sumTo-two : f s + f t ≡ g s + g t → sumTo f n ≡ sumTo g n
   sumTo-two e = let a = two f in let b = two g in let c = others in omega arith
 
@@ -90,9 +94,11 @@ sumTo-only f (suc n) s h = go (eqb n s) refl (sumTo-only f n s (λ u k. h u (ome
     go true q k = let e = eqb-true n s q in let a : f n ≡ f s = ap f e in let b = none-below n (omega arith) (omega arith) in omega arith
     go false q k = let a = h n (omega arith) (eqb-false n s q) in omega arith
 
+-- and so its value there is the sum
 pub sumTo-at : (f : ℕ → ℕ) (n s : ℕ) → s < n → ((u : ℕ) → u < n → (u ≡ s → ⊥) → f u ≡ 0) → sumTo f n ≡ f s
 sumTo-at f n s h z = let a = sumTo-only f n s z in let b = sumTo-ge f n s h in omega arith
 
+-- two values are in it
 pub sumTo-pair : (f : ℕ → ℕ) (n s t : ℕ) → s < n → t < n → (s ≡ t → ⊥) → f s + f t ≤ sumTo f n
 sumTo-pair f n s t hs ht ne =
     let a = sumTo-off s f n hs in
