@@ -9,7 +9,7 @@ use Rattle.page.specs.declared.state.PageState.the-variants.{Blank}
 use Rattle.page.specs.Walk.{Laid, walk}
 use Rattle.table.specs.declared.Page.{Page}
 use Rattle.table.specs.Table.{listed}
-use Rattle.table.proofs.Scanning.{lent}
+use Rattle.flash.proofs.Sectors.{lent-sector}
 use Rattle.table.proofs.Listing.{element, listed-end}
 use Rattle.found.specs.Places.{placeOf, Lies}
 use Rattle.found.specs.Found.{found}
@@ -74,7 +74,7 @@ loop-again c =
       omega arith,
       search needs,
       omega (arith, stored .1),
-      ap (λ (xs : List ℕ). xs ++ map placeOf (found (drop (l .i + 1) (listed table)) image)) (stored .0 ∙ ap (λ (t : List ℕ). take (l .k) (l .out) ++ map (λ (x : Laid). p .sector * 128 + 2 + x .entry) (walk t 126 0)) (lent image (p .sector)))
+      ap (λ (xs : List ℕ). xs ++ map placeOf (found (drop (l .i + 1) (listed table)) image)) (stored .0 ∙ ap (λ (t : List ℕ). take (l .k) (l .out) ++ map (λ (x : Laid). p .sector * 128 + 2 + x .entry) (walk t 126 0)) (lent-sector (p .sector) image))
           ∙ places-more image p (drop (l .i + 1) (listed table)) (take (l .k) (l .out))
           ∙ ap (λ (ps : List Page). take (l .k) (l .out) ++ map placeOf (found ps image)) (sym (element (table .pages) (table .count) (a .pre .1 .list) (l .i) noPage (omega arith)))
           ∙ l .inv .3,
