@@ -1,1 +1,2 @@
 pub mod Blobs
+pub mod Search

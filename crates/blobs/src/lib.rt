@@ -1,1 +1,7 @@
-// Recovery, stage 3: blobs.
+// Recovery's third stage: blobs that are not whole, and the older of two.
+mod chunks;
+mod stage;
+mod versions;
+
+pub use stage::blob_stage;
+pub use stage::make_blobs;

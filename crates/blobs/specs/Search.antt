@@ -1,0 +1,50 @@
+-- What the code of stage 3 answers while it judges, item by item. Assumes nothing.
+use mathlib.Core.Bool.{Bool, cond, _||_}
+use mathlib.Core.Option.{Option, none, some}
+use mathlib.Core.List.{List, []}
+use Prim.Native.Nat.{ℕ, _≤_}
+use lib.ListN.{length}
+use Rattle.flash.specs.Step.{Step}
+use Rattle.lists.specs.Lists.{keep, better, best}
+use Rattle.found.specs.declared.ranks.Pass.{Pass}
+use Rattle.found.specs.declared.ranks.Pass.the-variants.{Parts, Indices, Items}
+use Rattle.found.specs.Found.{Found, newer, indexOf}
+use Rattle.found.specs.Places.{itemAt, Each, Placed}
+use Rattle.blobs.specs.declared.versions.Newest.{Newest}
+use Rattle.blobs.specs.declared.versions.Newest.the-variants.{At, Nothing}
+use Rattle.blobs.specs.Blobs.{counting, soundOne, judge, older}
+
+-- the places that a stage works on
+pub record Gathered (l places : List ℕ) : Type 0 where
+  pub few : length places ≤ 2016
+  pub each : Each (Placed l) places
+
+-- the index that an answer names
+abbrev pub newestOf : List ℕ → Newest → Option Found
+newestOf l Nothing = none
+newestOf l (At p) = some (itemAt l p)
+
+abbrev pub PlacedAt : List ℕ → Newest → Type 0
+PlacedAt l Nothing = Unit {0}
+PlacedAt l (At p) = Placed l p
+
+-- an index of one of two versions
+abbrev pub indexOfEither : ℕ → ℕ → List ℕ → Bool
+indexOfEither v w r = indexOf v r || indexOf w r
+
+-- the newest of them; and with one item more, in front
+unfoldable pub newest : ℕ → ℕ → List Found → Option Found
+newest v w fs = best newer (keep (λ (x : Found). indexOfEither v w (x .raw)) fs)
+
+unfoldable pub newestWith : ℕ → ℕ → Found → Option Found → Option Found
+newestWith v w x o = cond (indexOfEither v w (x .raw)) (some (better newer x o)) o
+
+-- the index that counts, where the version is sound
+unfoldable pub soundIndex : ℕ → List Found → Option Found
+soundIndex v fs = cond (soundOne v fs (counting v fs)) (counting v fs) none
+
+-- what a pass makes of each number: stage 4 takes the items themselves
+unfoldable pub stepsIn : Pass → List Found → ℕ → List Step
+stepsIn Parts fs v = judge fs v
+stepsIn Indices fs g = older fs g
+stepsIn Items fs g = []
