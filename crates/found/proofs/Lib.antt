@@ -3,3 +3,4 @@ pub mod Reading
 pub mod Alike
 pub mod Finding
 pub mod Ranking
+pub mod Searching

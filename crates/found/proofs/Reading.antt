@@ -29,8 +29,8 @@ module _ (l : List ℕ) (p : ℕ) (here : Placed l p) where
       let n = spanOf (part l (p * 32) 32) * 32 in
       rw (be-part l (p * 32) n 8 8 (omega (arith, here .some)), be-part l (p * 32) n 16 8 (omega (arith, here .some)), be-part l (p * 32) 32 8 8 (lit≤ tt), be-part l (p * 32) 32 16 8 (lit≤ tt))
 
-  pub span-here : spanOf (itemAt l p .raw) ≡ spanOf (part l (p * 32) 32)
-  span-here = byte-at 2 (omega arith) ∙ sym (part-byte l (p * 32) 32 2 (omega arith))
+  pub byte-here : (i : ℕ) → i < 32 → getD (itemAt l p .raw) i 0 ≡ getD (part l (p * 32) 32) i 0
+  byte-here i h = byte-at i h ∙ sym (part-byte l (p * 32) 32 i h)
 
 -- entries are in the order of their places on the page
 pub entry-order : (l : List ℕ) (p q : ℕ) → Placed l p → Placed l q → leb (p % 128) (q % 128) ≡ leb (itemAt l p .entry) (itemAt l q .entry)

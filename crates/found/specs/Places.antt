@@ -47,7 +47,7 @@ pub record Placed (l : List ℕ) (p : ℕ) : Type 0 where
   pub ends : p % 128 + spanOf (part l (p * 32) 32) ≤ 128
   pub room : p / 128 * 4096 + 4096 ≤ length l
 
--- "An erasure" of items changes entry states alone, which are bytes 32 to 63 of a sector: two images that differ nowhere else
+-- two images that differ in entry states alone, which are bytes 32 to 63 of a sector: all that an erased item changes
 pub record Alike (l m : List ℕ) : Type 0 where
   pub size : length m ≡ length l
   pub same : (j : ℕ) → (j % 4096 < 32) ⊎ (64 ≤ j % 4096) → getD m j 0 ≡ getD l j 0

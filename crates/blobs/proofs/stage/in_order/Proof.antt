@@ -11,7 +11,7 @@ use Rattle.found.specs.Places.{itemsAt, Alike}
 use Rattle.found.specs.Found.{Found}
 use Rattle.found.proofs.Alike.{alike-refl, alike-trans, each-alike, items-alike}
 use Rattle.blobs.specs.Search.{stepsIn}
-use Rattle.blobs.proofs.Ascending.{countFrom, fewer, ascend-more, ascend-end}
+use Rattle.found.proofs.Searching.{countFrom, fewer, ascend-more, ascend-end}
 use Rattle.blobs.proofs.stage.in_order.Statement.{statement}
 use Rattle.blobs.proofs.stage.in_order.Tie as tie
 

@@ -4,10 +4,9 @@ use Prim.Native.Nat.{_*_}
 use native.Mathlib.Omega.{arith}
 use borrow.Author.Tests.{eq-eqb, ne-eqb}
 use borrow.Author.Needs.{needs}
-use Rattle.word.proofs.Bytes.{part-byte}
 use Rattle.entry.specs.Fields.{indexCount, indexSize}
 use Rattle.found.specs.Places.{itemAt}
-use Rattle.found.proofs.Reading.{byte-at, le-at}
+use Rattle.found.proofs.Reading.{byte-here, le-at}
 use Rattle.blobs.specs.Blobs.{sound}
 use Rattle.blobs.proofs.versions.is_sound.Statement.{statement}
 use Rattle.blobs.proofs.versions.is_sound.Tie as tie
@@ -19,7 +18,7 @@ returns c =
     let l = a .args .image .now in
     let p = a .args .index in
     let x = itemAt l p .raw in
-    let count : c .before .before .before .before .index-count .result ≡ indexCount x = c .before .before .before .before .index-count .ensures ∙ part-byte l (p * 32) 32 28 (omega arith) ∙ sym (byte-at l p (a .pre .1) 28 (omega arith)) in
+    let count : c .before .before .before .before .index-count .result ≡ indexCount x = c .before .before .before .before .index-count .ensures ∙ sym (byte-here l p (a .pre .1) 28 (omega arith)) in
     let sums = c .before .before .before .before .before .chunk-sums .ensures in
     let size : c .before .before .before .index-size .result ≡ indexSize x = c .before .before .before .index-size .ensures ∙ sym (le-at l p (a .pre .1) 24 4 (omega arith)) in
     rw (eq-eqb _ _ (sym count ∙ c .before .if1 .taken ∙ sums .0), size, sums .1)
@@ -31,7 +30,7 @@ returns-2 c =
     let l = a .args .image .now in
     let p = a .args .index in
     let x = itemAt l p .raw in
-    let count : c .before .before .before .index-count .result ≡ indexCount x = c .before .before .before .index-count .ensures ∙ part-byte l (p * 32) 32 28 (omega arith) ∙ sym (byte-at l p (a .pre .1) 28 (omega arith)) in
+    let count : c .before .before .before .index-count .result ≡ indexCount x = c .before .before .before .index-count .ensures ∙ sym (byte-here l p (a .pre .1) 28 (omega arith)) in
     let sums = c .before .before .before .before .chunk-sums .ensures in
     rw (ne-eqb _ _ (λ e. c .if1 .left (count ∙ e ∙ sym (sums .0))))
 
