@@ -1,1 +1,3 @@
 pub mod Finish
+pub mod Alike
+pub mod Rounds

@@ -6,3 +6,4 @@ pub mod Listing
 pub mod Out
 pub mod Seeking
 pub mod Places
+pub mod Held

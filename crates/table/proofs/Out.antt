@@ -7,7 +7,7 @@ use Prim.Native.Nat.{ℕ, suc, _+_, _-_, _<_, _≤_}
 use native.Mathlib.Omega.{arith}
 use native.Mathlib.Numerals.{add-one}
 use lib.ListN.{length, take, drop, getD, set, drop-of-length-le}
-use lib.Seq.{take-suc, take-all, drop-cons, set-split}
+use lib.Seq.{take-suc, take-suc-set, take-all, drop-cons, set-split}
 use Rattle.lists.specs.Lists.{replace, outWith, takeOut}
 use Rattle.lists.proofs.Search.{last-append}
 
@@ -54,3 +54,11 @@ module _ {A : Type 0} where
     pub passed-end : length ys ≤ i → passed ≡ ys
     unfolding replace
     passed-end h = rw (drop-of-length-le ys h, take-all i ys h) (append-nil ys)
+
+  -- a page is carried on from place to place: x from place i, where the one carried is put
+  module _ (ys : List A) (i : ℕ) (x : A) (room : i < length ys) where
+    carry-end : take (i + 1) (set ys i x) ≡ take i ys ++ (x ∷ [])
+    carry-end = rw (add-one i) (take-suc-set ys i x room)
+
+    pub carry-on : (y : A) {rest left : List A} → left ≡ y ∷ rest → take (i + 1) (set ys i x) ++ (y ∷ rest) ≡ take i ys ++ (x ∷ left)
+    carry-on y {rest} e = rw e (ap (λ (r : List A). r ++ (y ∷ rest)) carry-end ∙ append-assoc (take i ys) (x ∷ []) (y ∷ rest))

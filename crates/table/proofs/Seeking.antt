@@ -1,11 +1,13 @@
 -- Search in a page list, one page at a time: the first that passes, and the best from the end on. Assumes nothing.
 use mathlib.Core.Path.{_≡_, refl}
+use mathlib.Core.Logic.{inl, inr}
 use mathlib.Core.Bool.{Bool, true, false, cond}
 use mathlib.Core.Option.{Option, none, some}
 use mathlib.Core.List.{List, [], _∷_}
 use Prim.Native.Nat.{ℕ}
 use native.Mathlib.Omega.{arith}
 use Rattle.lists.specs.Lists.{firstOf, better, best}
+use Rattle.lists.proofs.Member.{_∈_, none≢some}
 use Rattle.page.specs.declared.state.PageState.{PageState}
 use Rattle.page.specs.declared.state.PageState.the-variants.{Blank, Corrupt, Active, Full, Freeing}
 use Rattle.table.specs.declared.Page.{Page}
@@ -22,6 +24,15 @@ module _ (p : Page → Bool) (x : Page) (xs : List Page) where
   pub first-on : p x ≡ false → firstOf p (x ∷ xs) ≡ firstOf p xs
   unfolding firstOf
   first-on e = rw e
+
+pub first-member : (p : Page → Bool) (xs : List Page) (y : Page) → firstOf p xs ≡ some y → y ∈ xs
+unfolding firstOf
+first-member p [] y e = absurd (none≢some refl e)
+first-member p (x ∷ xs) y e = go (p x) e (first-member p xs y)
+  where
+    go : (b : Bool) → cond b (some x) (firstOf p xs) ≡ some y → (firstOf p xs ≡ some y → y ∈ xs) → y ∈ (x ∷ xs)
+    go true q ih = inl (cc)
+    go false q ih = inr (ih q)
 
 -- two tests that agree on each page find the same
 pub first-same : (p q : Page → Bool) → ((x : Page) → p x ≡ q x) → (xs : List Page) → firstOf p xs ≡ firstOf q xs

@@ -234,3 +234,44 @@ pub fn first_in(t: Table, wanted: PageState) -> Sought
     }
     Sought::Nothing
 }
+
+// The list with a page more at its front: each page moves on by one place.
+pub fn prepend_page(t: Table, p: Page) -> Table
+    requires { ⌜ Sized t × (t .count < 16) ⌝ }
+    ensures { λ r. ⌜ Holds r (p ∷ listed t) (freed t) ⌝ }
+{
+    let count = t.count;
+    let mut out = t;
+    let mut carried = p;
+    let mut i: usize = 0;
+    while i < count {
+        out.pages[i] = carried;
+        carried = t.pages[i];
+        i += 1;
+    }
+    out.pages[count] = carried;
+    out.count = count + 1;
+    out
+}
+
+// The free list with a sector more at its end.
+pub fn join_free(t: Table, sector: usize) -> Table
+    requires { ⌜ Sized t × (t .«free_count» < 16) ⌝ }
+    ensures { λ r. ⌜ Holds r (listed t) (freed t ++ (sector ∷ [])) × (r .count ≡ t .count) ⌝ }
+{
+    let mut out = t;
+    let n = out.free_count;
+    out.free[n] = sector;
+    out.free_count = n + 1;
+    out
+}
+
+// The free list without its last sector.
+pub fn drop_free(t: Table) -> Table
+    requires { ⌜ Sized t × (0 < t .«free_count») ⌝ }
+    ensures { λ r. ⌜ Holds r (listed t) (dropLast (freed t)) × (r .count ≡ t .count) × (r .«free_count» < 16) ⌝ }
+{
+    let mut out = t;
+    out.free_count = out.free_count - 1;
+    out
+}

@@ -1,0 +1,132 @@
+// A round of stage 2: one source is finished.
+use crate::judge::Alike;
+use crate::judge::matches;
+use crate::newest::newest_holds;
+use flash::Ran;
+use page::PageState;
+use table::Page;
+use table::Sought;
+use table::Table;
+ghost use mathlib.Core.Path.{_≡_};
+ghost use mathlib.Core.Bool.{cond};
+ghost use mathlib.Core.Option.{some, none};
+ghost use mathlib.Core.List.{[], _∷_, _++_, getLast?};
+ghost use Prim.Native.Nat.{_+_, _*_, _<_};
+ghost use Rattle.crc.specs.Table.{crcTable};
+ghost use Rattle.flash.specs.Step.{erase, run};
+ghost use Rattle.lists.specs.Lists.{firstOf, greatest, takeOut};
+ghost use Rattle.table.specs.Table.{sectorsOf, sequence, activePage, freeingPage, inSector, listed, freed, Sized};
+ghost use Rattle.table.specs.Placed.{Placed};
+ghost use Rattle.finish.specs.Finish.{nextSequence, afresh, after, roundWith, round};
+ghost use Rattle.finish.specs.Rounds.{Makes};
+
+// What became of a round's steps, and the lists as it leaves them: these count only where all steps were made.
+pub struct Rounded {
+    pub ran: Ran,
+    pub table: Table,
+}
+
+// The source `x`, which is out of the lists, goes to the last free sector; with none it goes to the front and counts as Full.
+fn copy_afresh(t: &[u32; 324], image: &mut [u8], x: Page, lists: Table, allowance: u64) -> Rounded
+    requires { ⌜ (now t ≡ crcTable) × Sized lists × Placed (sectorsOf (now image)) (x ∷ listed lists) (freed lists) × (nextSequence x (listed lists) < 0x1_0000_0000) ⌝ }
+    ensures { λ r. ⌜ Makes (afresh x (listed lists) (freed lists) (now (image .entry)) (getLast? (freed lists))) allowance (now (image .entry)) (now (image .exit)) r ⌝ }
+{
+    let n = lists.free_count;
+    if n == 0 {
+        return Rounded {
+            ran: Ran::Done(allowance),
+            table: table::prepend_page(lists, table::as_full(x)),
+        };
+    }
+    let target = lists.free[n - 1];
+    let source = x.seen;
+    let top = table::larger(table::greatest_sequence(lists), source.sequence);
+    let ran = relocate::move_page(t, image, x.sector, target, top + 1, allowance);
+    let a = target * 4096;
+    let e = a + 4096;
+    let seen = page::page_record(t, &image[a..e]);
+    let moved = Page {
+        sector: target,
+        seen,
+    };
+    let taken = table::append_page(table::drop_free(lists), moved);
+    Rounded {
+        ran,
+        table: table::join_free(taken, x.sector),
+    }
+}
+
+// The Active page `y` is a partial copy of `x`: it is erased, never resumed, and `x` is copied afresh.
+fn erase_copy(
+    t: &[u32; 324],
+    image: &mut [u8],
+    x: Page,
+    y: Page,
+    lists: Table,
+    allowance: u64,
+) -> Rounded
+    requires { ⌜ (now t ≡ crcTable) × Sized lists × Placed (sectorsOf (now image)) (x ∷ listed lists) (freed lists) × (firstOf activePage (listed lists) ≡ some y) × (nextSequence x (listed lists) < 0x1_0000_0000) ⌝ }
+    ensures { λ r. ⌜ Makes (after (erase (y .sector) ∷ []) (afresh x (takeOut (inSector (y .sector)) (listed lists)) (freed lists ++ (y .sector ∷ [])) (run (erase (y .sector) ∷ []) (now (image .entry))) (getLast? (freed lists ++ (y .sector ∷ []))))) allowance (now (image .entry)) (now (image .exit)) r ⌝ }
+{
+    let out = table::take_out(lists, y.sector);
+    let joined = table::join_free(out, y.sector);
+    let ran = flash::erase_sector(image, y.sector, allowance);
+    let Ran::Done(left) = ran else {
+        return Rounded {
+            ran: Ran::Stopped,
+            table: joined,
+        };
+    };
+    copy_afresh(t, image, x, joined, left)
+}
+
+// The round where `y` is the first Active page.
+fn beside_active(
+    t: &[u32; 324],
+    image: &mut [u8],
+    x: Page,
+    y: Page,
+    lists: Table,
+    allowance: u64,
+) -> Rounded
+    requires { ⌜ (now t ≡ crcTable) × Sized lists × Placed (sectorsOf (now image)) (x ∷ listed lists) (freed lists) × (firstOf activePage (listed lists) ≡ some y) × (nextSequence x (listed lists) < 0x1_0000_0000) ⌝ }
+    ensures { λ r. ⌜ Makes (roundWith x (listed lists) (freed lists) (now (image .entry)) (some y)) allowance (now (image .entry)) (now (image .exit)) r ⌝ }
+{
+    if matches(t, Alike::Header, image, y.sector, x.sector) {
+        return erase_copy(t, image, x, y, lists, allowance);
+    }
+    copy_afresh(t, image, x, lists, allowance)
+}
+
+// The round where no page is Active.
+fn without_active(
+    t: &[u32; 324],
+    image: &mut [u8],
+    x: Page,
+    lists: Table,
+    allowance: u64,
+) -> Rounded
+    requires { ⌜ (now t ≡ crcTable) × Sized lists × Placed (sectorsOf (now image)) (x ∷ listed lists) (freed lists) × (nextSequence x (listed lists) < 0x1_0000_0000) ⌝ }
+    ensures { λ r. ⌜ Makes (roundWith x (listed lists) (freed lists) (now (image .entry)) none) allowance (now (image .entry)) (now (image .exit)) r ⌝ }
+{
+    if newest_holds(t, image, x, lists) {
+        let ran = flash::erase_sector(image, x.sector, allowance);
+        return Rounded {
+            ran,
+            table: table::join_free(lists, x.sector),
+        };
+    }
+    copy_afresh(t, image, x, lists, allowance)
+}
+
+// The round of the source `x`, the first Freeing page.
+pub fn round(t: &[u32; 324], image: &mut [u8], x: Page, lists: Table, allowance: u64) -> Rounded
+    requires { ⌜ (now t ≡ crcTable) × Sized lists × Placed (sectorsOf (now image)) (listed lists) (freed lists) × (firstOf freeingPage (listed lists) ≡ some x) × (greatest sequence (listed lists) < 0xFFFF_FFFF) ⌝ }
+    ensures { λ r. ⌜ Makes (round x (listed lists) (freed lists) (now (image .entry))) allowance (now (image .entry)) (now (image .exit)) r ⌝ }
+{
+    let rest = table::take_out(lists, x.sector);
+    let Sought::Found(y) = table::first_in(rest, PageState::Active) else {
+        return without_active(t, image, x, rest, allowance);
+    };
+    beside_active(t, image, x, y, rest, allowance)
+}
