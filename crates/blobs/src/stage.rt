@@ -1,6 +1,5 @@
 // The stage: versions in ascending order, then the older of two, group by group.
 use super::chunks::drop_version;
-use super::chunks::erase_chunks;
 use super::versions::Newest;
 use super::versions::is_sound;
 use super::versions::newest_of;
@@ -30,7 +29,7 @@ fn judge_version(image: &mut [u8], places: &[u16], v: Rank, allowed: u64) -> Ran
     ensures { λ r. ⌜ Did (judge (itemsAt (now (image .entry)) (now (places .entry))) (rankNumber v)) allowed (now (image .entry)) (now (image .exit)) r × Alike (now (image .entry)) (now (image .exit)) ⌝ }
 {
     let Newest::At(index) = newest_of(image, places, v, v) else {
-        return erase_chunks(image, places, v, allowed);
+        return found::erase_chunks(image, places, v, allowed);
     };
     if is_sound(image, places, v, index) {
         return Ran::Done(allowed);

@@ -22,17 +22,6 @@ pub struct Sums {
     pub size: u64,
 }
 
-pub fn is_chunk_of(image: &[u8], place: usize, v: Rank) -> bool
-    requires { ⌜ Placed (now image) place ⌝ }
-    ensures { λ r. ⌜ r ≡ chunkOf (rankNumber v) (itemAt (now (image .entry)) place .raw) ⌝ }
-{
-    if found::is_chunk(image, place) {
-        found::rank_same(found::version_at(image, place), v)
-    } else {
-        false
-    }
-}
-
 // Whether an index of one of two versions stands there.
 fn is_index_of(image: &[u8], place: usize, v: Rank, w: Rank) -> bool
     requires { ⌜ Placed (now image) place ⌝ }
@@ -91,7 +80,7 @@ fn chunk_sums(image: &[u8], places: &[u16], v: Rank) -> Sums
     while 0 < i {
         i -= 1;
         let place = found::place_at(places, i);
-        if !is_chunk_of(image, place, v) {
+        if !found::is_chunk_of(image, place, v) {
             continue;
         }
         count += 1;

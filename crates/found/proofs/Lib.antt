@@ -4,3 +4,4 @@ pub mod Alike
 pub mod Finding
 pub mod Ranking
 pub mod Searching
+pub mod Erasing

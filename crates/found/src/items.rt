@@ -87,7 +87,7 @@ pub fn span_at(image: &[u8], place: usize) -> usize
     word::size(image[place * 32 + 2])
 }
 
-fn start_at(image: &[u8], place: usize) -> u8
+pub fn start_at(image: &[u8], place: usize) -> u8
     requires { ⌜ Placed (now image) place ⌝ }
     ensures { λ r. ⌜ r ≡ startIn (itemAt (now (image .entry)) place .raw) ⌝ }
 {

@@ -1,15 +1,20 @@
 // The items of the listed pages, each known by its place: the number of its first block of 32 bytes in the image.
+mod chunks;
 mod items;
 mod places;
 mod ranks;
 
+pub use chunks::erase_chunks;
+pub use chunks::is_chunk_of;
 pub use items::erase_at;
 pub use items::group_at;
 pub use items::is_chunk;
 pub use items::is_index;
 pub use items::is_newer;
 pub use items::is_part;
+pub use items::namespace_at;
 pub use items::span_at;
+pub use items::start_at;
 pub use items::version_at;
 pub use places::gather;
 pub use places::place_at;

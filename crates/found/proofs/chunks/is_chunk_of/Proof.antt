@@ -1,11 +1,11 @@
--- `blobs::is_chunk_of` meets its contract: the tests are the definition's. Assumes nothing.
+-- `found::is_chunk_of` meets its contract: the tests are the definition's. Assumes nothing.
 use mathlib.Core.Path.{sym, ap, _∙_}
 use Prim.Native.Nat.{ℕ}
 use lib.Dec.{eqb}
 use borrow.Author.Needs.{needs}
 use Rattle.found.specs.Ranks.{rankNumber}
-use Rattle.blobs.proofs.versions.is_chunk_of.Statement.{statement}
-use Rattle.blobs.proofs.versions.is_chunk_of.Tie as tie
+use Rattle.found.proofs.chunks.is_chunk_of.Statement.{statement}
+use Rattle.found.proofs.chunks.is_chunk_of.Tie as tie
 
 returns : tie.Need-returns
 returns c =
