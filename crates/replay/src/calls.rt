@@ -34,7 +34,7 @@ fn source_of(answer: Answer) -> u32 {
 }
 
 // Result, steps, stage, source and the image's length, and then the image.
-fn write_call(answer: Answer, image: &[u8]) -> bool {
+pub fn write_call(answer: Answer, image: &[u8]) -> bool {
     let mut out = [0u8; 18];
     put_byte(&mut out, 0, answer::number(answer));
     put_eight(&mut out, 1, answer::steps(answer));

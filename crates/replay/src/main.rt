@@ -8,6 +8,7 @@
 mod bytes;
 mod calls;
 mod items;
+mod recovery;
 
 ghost use Prim.Native.Nat.{_≤_};
 use libc::STDIN_FILENO;
@@ -27,6 +28,10 @@ fn one_case(image: &mut [u8]) -> bool {
     let read = io::read_full(STDIN_FILENO, &mut image[..length]);
     if read < length {
         return false;
+    }
+    let lent = word::le32(&head, 9) as usize;
+    if head[0] == 0 {
+        return recovery::answer_recover(&mut image[..length], lent, word::le64(&head, 1));
     }
     answer(head[0], word::le64(&head, 1), image, length)
 }

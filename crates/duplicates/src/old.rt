@@ -1,0 +1,65 @@
+// What goes with the old items of a group.
+use flash::Ran;
+
+// Whether the item at `place` is a blob index of the given start.
+fn is_start(image: &[u8], place: usize, start: u8) -> bool {
+    if found::is_index(image, place) {
+        found::start_at(image, place) == start
+    } else {
+        false
+    }
+}
+
+// Whether one of the items is a blob index of the given start.
+fn any_start(image: &[u8], places: &[u16], start: u8) -> bool {
+    let mut i: usize = 0;
+    while i < places.len() {
+        if is_start(image, found::place_at(places, i), start) {
+            return true;
+        }
+        i += 1;
+    }
+    false
+}
+
+// Whether the old item at `place` takes its chunks with it: it is a blob index, the kept item is none of the same start, and none of those `before` took them.
+fn takes_chunks(image: &[u8], before: &[u16], place: usize, kept: usize) -> bool {
+    if !found::is_index(image, place) {
+        return false;
+    }
+    let start = found::start_at(image, place);
+    if is_start(image, kept, start) {
+        return false;
+    }
+    !any_start(image, before, start)
+}
+
+// The old item number `i`, and its chunks.
+fn erase_old(image: &mut [u8], places: &[u16], sorted: &[u16], i: usize, allowed: u64) -> Ran {
+    let place = found::place_at(sorted, i);
+    let kept = found::place_at(sorted, sorted.len() - 1);
+    let span = found::span_at(image, place);
+    let r = found::erase_at(image, place, span, allowed);
+    let Ran::Done(left) = r else {
+        return Ran::Stopped;
+    };
+    if takes_chunks(image, &sorted[..i], place, kept) {
+        return found::erase_chunks(image, places, found::version_at(image, place), left);
+    }
+    Ran::Done(left)
+}
+
+// All but the newest, oldest first.
+pub fn erase_all_old(image: &mut [u8], places: &[u16], sorted: &[u16], allowed: u64) -> Ran {
+    let mut left = allowed;
+    let mut i: usize = 1;
+    while i < sorted.len() {
+        let r = erase_old(image, places, sorted, i - 1, left);
+        let Ran::Done(rest) = r else {
+            return Ran::Stopped;
+        };
+        left = rest;
+        i += 1;
+    }
+    Ran::Done(left)
+}

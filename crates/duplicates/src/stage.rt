@@ -1,0 +1,86 @@
+// The stage: groups in ascending order, then the last mark.
+use super::group::sort_group;
+use super::old::erase_all_old;
+use flash::Ran;
+use found::Next;
+use found::Pass;
+use found::Rank;
+use table::Table;
+
+fn take_group(
+    image: &mut [u8],
+    places: &[u16],
+    sorted: &mut [u16],
+    g: Rank,
+    allowed: u64,
+) -> Ran {
+    let n = sort_group(image, places, g, sorted);
+    erase_all_old(image, places, &sorted[..n], allowed)
+}
+
+// "Repeated search for the next key": each group, ascending.
+fn make_duplicates(image: &mut [u8], places: &[u16], sorted: &mut [u16], allowed: u64) -> Ran {
+    let mut left = allowed;
+    let mut last = Next::Nothing;
+    loop {
+        let Next::Is(g) = found::next_rank(image, places, Pass::Items, last) else {
+            return Ran::Done(left);
+        };
+        let r = take_group(image, places, sorted, g, left);
+        let Ran::Done(rest) = r else {
+            return Ran::Stopped;
+        };
+        left = rest;
+        last = Next::Is(g);
+    }
+}
+
+// How many Empty entries the page in `sector` has as the image stands.
+fn empty_in(image: &[u8], sector: usize) -> u32 {
+    let a = sector * 4096;
+    let e = a + 4096;
+    let totals = entry::totals_of(&image[a..e]);
+    totals.empty
+}
+
+// An Active page that now has no Empty entry is marked Full.
+fn make_last_marks(image: &mut [u8], table: Table, allowed: u64) -> Ran {
+    let count = table.count;
+    let mut left = allowed;
+    let mut i: usize = 0;
+    while i < count {
+        let p = table.pages[i];
+        let seen = p.seen;
+        let state = seen.state;
+        if !table::is_active(state) {
+            i += 1;
+            continue;
+        }
+        if empty_in(image, p.sector) != 0 {
+            i += 1;
+            continue;
+        }
+        let r = item::mark_full(image, p.sector, left);
+        let Ran::Done(rest) = r else {
+            return Ran::Stopped;
+        };
+        left = rest;
+        i += 1;
+    }
+    Ran::Done(left)
+}
+
+// The stage, on the items at the places, which are those found on the listed pages.
+pub fn duplicate_stage(
+    image: &mut [u8],
+    table: Table,
+    places: &[u16],
+    sorted: &mut [u16],
+    allowed: u64,
+) -> Ran {
+    let r = make_duplicates(image, places, sorted, allowed);
+    let Ran::Done(left) = r else {
+        return Ran::Stopped;
+    };
+    make_last_marks(image, table, left)
+}
