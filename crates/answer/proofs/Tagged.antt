@@ -16,7 +16,7 @@ pub length-tag : (x : Stage) (ss : List Step) → length (tag x ss) ≡ length s
 unfolding tag
 length-tag x ss = length-map ss (λ (s : Step). record { stage = x; step = s })
 
-left-none : (n : ℕ) (ts : List Staged) → length ts ≤ n → left n ts ≡ []
+pub left-none : (n : ℕ) (ts : List Staged) → length ts ≤ n → left n ts ≡ []
 unfolding left
 left-none zero [] h = refl
 left-none zero (t ∷ ts) h = absurd (omega arith)

@@ -1,6 +1,7 @@
 // What a call answers, and the stages of a stopped one.
 ghost use mathlib.Core.Path.{_≡_};
 ghost use Rattle.answer.specs.Answer.{numberOf, stepsOf};
+ghost use Rattle.answer.specs.Went.{toldOf};
 
 // The stage of the first step that was not made. Finish names its source sector; reclaim is one stage.
 pub enum Stage {
@@ -22,6 +23,12 @@ pub enum Answer {
     SequencesSpent,
     Stopped(Stage, u64),
     NotReclaimable,
+}
+
+// What became of steps that have stages: all were made, and so many are still allowed; or none is, and this is the stage of the first that was not made.
+pub enum Went {
+    Ended(u64),
+    Short(Stage),
 }
 
 // The number that document 01 gives an answer.
@@ -55,5 +62,21 @@ pub fn steps(answer: Answer) -> u64
         Answer::SequencesSpent => 0,
         Answer::Stopped(_, n) => n,
         Answer::NotReclaimable => 0,
+    }
+}
+
+// The answer of a call to which `allowance` steps were allowed.
+pub fn told(went: Went, allowance: u64) -> Answer
+    ensures { λ r. ⌜ r ≡ toldOf went allowance ⌝ }
+{
+    match went {
+        Went::Ended(left) => {
+            if left <= allowance {
+                Answer::Done(allowance - left)
+            } else {
+                Answer::Done(0)
+            }
+        }
+        Went::Short(stage) => Answer::Stopped(stage, allowance),
     }
 }

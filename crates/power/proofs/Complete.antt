@@ -15,7 +15,7 @@ use Rattle.flash.specs.Step.{erase, sector}
 use Rattle.lists.proofs.Member.{_∈_, true≢false}
 use Rattle.table.specs.declared.Page.{Page}
 use Rattle.table.specs.Table.{activePage, freeingPage, frees, itemsIn, pageAt, pages, sectorsOf}
-use Rattle.recover.specs.Recover.{freeings}
+use Rattle.finishing.specs.Finishing.{freeings}
 use Rattle.power.proofs.State.{Good, Old, Side, Source, SourceRecord, Target, TargetRecord, freeings-one, full, old-full, old-in, source-in, source-record, target-apart, target-in, target-page, target-record}
 use Rattle.power.proofs.Runs.{Runs, rec-none}
 use Rattle.power.proofs.Quiet.{no-kept}

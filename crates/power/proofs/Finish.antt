@@ -28,7 +28,7 @@ use Rattle.table.specs.Table.{activePage, freeingPage, inSector, itemsIn, pageA
 use Rattle.table.proofs.Sectors.{sumTo-pair}
 use Rattle.table.proofs.Records.{record-sequence}
 use Rattle.finish.specs.Finish.{afresh, after, copyOf, holdsAll, nameOf, newest, newestHolds, nextSequence, round, roundWith, sameBytes}
-use Rattle.recover.specs.Recover.{freeings}
+use Rattle.finishing.specs.Finishing.{freeings}
 use Rattle.power.proofs.Plain.{finish, finishOn, finishWith, rescan}
 use Rattle.power.proofs.Shape.{raws}
 use Rattle.power.proofs.State.{Good, Old, Side, Source, SourceRecord, TargetRecord, old-full, old-sequence}

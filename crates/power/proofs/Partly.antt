@@ -34,7 +34,7 @@ use Rattle.table.proofs.Scanning.{record-state}
 use Rattle.table.proofs.Pages.{in-pages, once, page-empty, page-state}
 use Rattle.order.specs.Order.{kept, noEmpty, ordered, ordering}
 use Rattle.finish.specs.Finish.{copyOf}
-use Rattle.recover.specs.Recover.{freeings}
+use Rattle.finishing.specs.Finishing.{freeings}
 use Rattle.power.proofs.State.{AllFree, Good, Old, Partial, Side, Source, SourceRecord, State, Target, TargetRecord, freeings-one, full, old-full, old-in, partly, source-in, source-record, target-apart, target-in, target-page, target-record}
 use Rattle.power.proofs.Runs.{Runs, rec-some, run-nil, run-one}
 use Rattle.power.proofs.Lone.{Kept, Lone, kept-order, keptAs}

@@ -15,7 +15,8 @@ use Rattle.finish.specs.Finish.{round}
 use Rattle.found.specs.Found.{found}
 use Rattle.blobs.specs.Blobs.{blobSteps}
 use Rattle.duplicates.specs.Duplicates.{duplicateStage}
-use Rattle.recover.specs.Recover.{afterOrder, finishFrom, finishing, freeings, fromFinish, fromOrder, lastStages, recovering}
+use Rattle.finishing.specs.Finishing.{finishFrom, finishing, freeings}
+use Rattle.recover.specs.Recover.{afterOrder, fromFinish, fromOrder, lastStages, recovering}
 
 -- 2, as `finishing`
 unfoldable pub finishWith : (Page → List Step) → Option Page → List Step

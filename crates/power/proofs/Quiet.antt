@@ -19,7 +19,7 @@ use Rattle.order.specs.Order.{kept, noEmpty, orderList, orderSteps, ordered, or
 use Rattle.found.specs.Found.{found}
 use Rattle.blobs.specs.Blobs.{blobSteps}
 use Rattle.duplicates.specs.Duplicates.{duplicateStage, duplicateSteps, lastMarks}
-use Rattle.recover.specs.Recover.{freeings}
+use Rattle.finishing.specs.Finishing.{freeings}
 use Rattle.power.specs.Demand3.{total}
 use Rattle.power.proofs.Lone.{Lone, a-in, active-is, kept-order, keptAs}
 use Rattle.power.proofs.Idle.{Calm, blob-idle, duplicate-idle, tot}

@@ -8,7 +8,7 @@ use lib.Seq.{take-nil}
 use Rattle.flash.specs.Step.{Step, run}
 use Rattle.table.specs.Table.{frees, pages}
 use Rattle.order.specs.Order.{kept, ordered, ordering}
-use Rattle.recover.specs.Recover.{freeings}
+use Rattle.finishing.specs.Finishing.{freeings}
 use Rattle.power.specs.Demand3.{total}
 use Rattle.power.proofs.Quiet.{calm-same, order-idle, order-none, plain-rest}
 use Rattle.power.proofs.Idle.{Calm}

@@ -23,7 +23,7 @@ use Rattle.table.proofs.Sectors.{sumTo-at}
 use Rattle.table.proofs.Pages.{in-pages, pages-in, sum-pages}
 use Rattle.table.proofs.Records.{record-sequence}
 use Rattle.finish.specs.Finish.{nameOf, sameBytes}
-use Rattle.recover.specs.Recover.{freeings}
+use Rattle.finishing.specs.Finishing.{freeings}
 use Rattle.power.specs.Demand3.{total}
 use Rattle.power.proofs.Read.{noRoom}
 use Rattle.power.proofs.Shape.{raws}

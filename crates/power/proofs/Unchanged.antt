@@ -22,7 +22,7 @@ use Rattle.order.specs.Order.{kept}
 use Rattle.found.specs.Found.{Found, found, foundOn}
 use Rattle.blobs.specs.Blobs.{blobSteps}
 use Rattle.duplicates.specs.Duplicates.{duplicateStage, duplicateSteps, lastMarks}
-use Rattle.recover.specs.Recover.{freeings}
+use Rattle.finishing.specs.Finishing.{freeings}
 use Rattle.power.proofs.Items.{IsItem, Real, raw-span, walk-in}
 use Rattle.power.proofs.Quiet.{freeings-none, no-kept, order-none}
 use Rattle.power.proofs.Hits.{Hit, Spanned, blobs-hit, dup-hit, hit-left}

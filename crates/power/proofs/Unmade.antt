@@ -20,7 +20,7 @@ use Rattle.table.specs.declared.Page.{Page}
 use Rattle.table.specs.Table.{activePage, freeingPage, frees, pageAt, pages, sectorsOf}
 use Rattle.table.proofs.Pages.{frees-in, in-frees}
 use Rattle.finish.specs.Finish.{round}
-use Rattle.recover.specs.Recover.{freeings}
+use Rattle.finishing.specs.Finishing.{freeings}
 use Rattle.power.proofs.Runs.{Runs, rec-none}
 use Rattle.power.proofs.Quiet.{no-kept}
 use Rattle.power.proofs.Finish.{Seq, finish-one, junk-round}

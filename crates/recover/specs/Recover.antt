@@ -1,39 +1,20 @@
 -- Document 01, Recovery, in order: the list of steps that the rules give for an image l, each with its stage. Each stage reads the image that the steps
 -- before it left. Assumes nothing.
 use mathlib.Core.Bool.{Bool, cond, not, _&&_}
-use mathlib.Core.Option.{Option, none, some}
 use mathlib.Core.List.{List, [], _∷_, _++_}
 use Prim.Native.Nat.{ℕ, zero, suc, _-_}
 use lib.Dec.{leb, ltb}
-use Rattle.entry.specs.States.{one}
 use Rattle.flash.specs.Step.{Step, run}
-use Rattle.answer.specs.declared.Stage.{Stage}
-use Rattle.answer.specs.declared.Stage.the-variants.{Order, Finish, Blobs, Duplicates}
+use Rattle.answer.specs.declared.Stage.the-variants.{Order, Blobs, Duplicates}
 use Rattle.answer.specs.Staged.{Staged, tag, untag}
-use Rattle.lists.specs.Lists.{sumOf, firstOf, greatest}
+use Rattle.lists.specs.Lists.{greatest}
 use Rattle.table.specs.declared.Page.{Page}
-use Rattle.table.specs.Table.{wholeSectors, pages, frees, sequence, freeingPage}
+use Rattle.table.specs.Table.{wholeSectors, pages, frees, sequence}
 use Rattle.order.specs.Order.{ordering, ordered}
-use Rattle.finish.specs.Finish.{round}
+use Rattle.finishing.specs.Finishing.{freeings, finishing}
 use Rattle.found.specs.Found.{found}
 use Rattle.blobs.specs.Blobs.{blobSteps}
 use Rattle.duplicates.specs.Duplicates.{duplicateStage}
-
--- how many pages of the list count as Freeing
-unfoldable pub freeings : List Page → ℕ
-freeings ps = sumOf (λ (p : Page). one (freeingPage p)) ps
-
--- 2. "Repeat until no page counts as Freeing": a round takes one away, so n is their number. Every step of a round carries its source
-unfoldable pub finishFrom : (Page → List Staged) → Option Page → List Staged
-finishFrom f none = []
-finishFrom f (some x) = f x
-
-unfoldable pub finishing : ℕ → List Page → List ℕ → List ℕ → List Staged
-finishing zero ps fs l = []
-finishing (suc n) ps fs l =
-    finishFrom
-    (λ (x : Page). let w = round x ps fs l in tag (Finish (x .sector)) (w .steps) ++ finishing n (w .list) (w .free) (run (w .steps) l))
-    (firstOf freeingPage ps)
 
 -- 3 and 4: "This stage and the next each judge by the items found as they begin"
 unfoldable pub lastStages : List Page → List ℕ → List Staged

@@ -1,14 +1,11 @@
 // Recovery: what power loss left unfinished is finished, and what is found twice is left once.
-mod finishing;
 mod stages;
-mod went;
 
 use answer::Answer;
-use finishing::count_freeing;
+use answer::Went;
 use page::PageRecord;
 use records::Rows;
 use table::Table;
-use went::Went;
 
 // The answer, and the records to store: none where the call is refused or stopped.
 pub struct Recovered {
@@ -18,7 +15,7 @@ pub struct Recovered {
 
 // Whether the sequences that finishing takes might not be there.
 fn is_too_high(lists: Table) -> bool {
-    let k = count_freeing(lists);
+    let k = finishing::count_freeing(lists);
     if k == 0 {
         return false;
     }
@@ -47,14 +44,14 @@ fn recover_image(image: &mut [u8], lent: usize, allowance: u64) -> Recovered {
     if is_too_high(lists) {
         return refused(Answer::SequencesSpent);
     }
-    match stages::make_stages(&t, image, lists, allowance) {
-        Went::Done(left) => {
-            Recovered {
-                answer: Answer::Done(allowance - left),
-                rows: records::read_rows(&t, image, sectors),
-            }
-        }
-        Went::Stopped(stage) => refused(Answer::Stopped(stage, allowance)),
+    let went = stages::make_stages(&t, image, lists, allowance);
+    let answer = answer::told(went, allowance);
+    let Went::Ended(_) = went else {
+        return refused(answer);
+    };
+    Recovered {
+        answer,
+        rows: records::read_rows(&t, image, sectors),
     }
 }
 

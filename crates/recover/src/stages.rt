@@ -1,8 +1,6 @@
 // The stages in sequence.
-use crate::finishing::count_freeing;
-use crate::finishing::finish_all;
-use crate::went::Went;
 use answer::Stage;
+use answer::Went;
 use flash::Ran;
 use table::Table;
 
@@ -13,7 +11,7 @@ fn last_stages(t: &[u32; 324], image: &mut [u8], lists: Table, allowed: u64) -> 
     let n = found::gather(t, image, lists, &mut places);
     let r = blobs::make_blobs(image, &places[..n], allowed);
     let Ran::Done(left) = r else {
-        return Went::Stopped(Stage::Blobs);
+        return Went::Short(Stage::Blobs);
     };
     let mut m = n;
     if left != allowed {
@@ -21,16 +19,16 @@ fn last_stages(t: &[u32; 324], image: &mut [u8], lists: Table, allowed: u64) -> 
     }
     let r = duplicates::duplicate_stage(image, lists, &places[..m], &mut sorted, left);
     let Ran::Done(rest) = r else {
-        return Went::Stopped(Stage::Duplicates);
+        return Went::Short(Stage::Duplicates);
     };
-    Went::Done(rest)
+    Went::Ended(rest)
 }
 
 // Stage 1 on the lists as they were scanned, then stages 3 and 4.
 fn from_order(t: &[u32; 324], image: &mut [u8], lists: Table, allowed: u64) -> Went {
     let r = order::make_order(image, lists, allowed);
     let Ran::Done(left) = r else {
-        return Went::Stopped(Stage::Order);
+        return Went::Short(Stage::Order);
     };
     last_stages(t, image, order::order_table(lists), left)
 }
@@ -40,11 +38,11 @@ fn from_finish(
     t: &[u32; 324],
     image: &mut [u8],
     lists: Table,
-    rounds: usize,
+    count: usize,
     allowed: u64,
 ) -> Went {
-    let r = finish_all(t, image, lists, rounds, allowed);
-    let Went::Done(left) = r else {
+    let r = finishing::finish_all(t, image, lists, count, allowed);
+    let Went::Ended(left) = r else {
         return r;
     };
     let sectors = image.len() / 4096;
@@ -56,12 +54,12 @@ fn from_finish(
 pub fn make_stages(t: &[u32; 324], image: &mut [u8], lists: Table, allowed: u64) -> Went {
     let r = order::make_order(image, lists, allowed);
     let Ran::Done(left) = r else {
-        return Went::Stopped(Stage::Order);
+        return Went::Short(Stage::Order);
     };
     let ordered = order::order_table(lists);
-    let rounds = count_freeing(ordered);
-    if rounds == 0 {
+    let count = finishing::count_freeing(ordered);
+    if count == 0 {
         return last_stages(t, image, ordered, left);
     }
-    from_finish(t, image, ordered, rounds, left)
+    from_finish(t, image, ordered, count, left)
 }

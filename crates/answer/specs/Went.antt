@@ -1,0 +1,29 @@
+-- Document 01, Result numbers: what a call has done of steps that have stages, while more may follow. Assumes nothing.
+use mathlib.Core.Path.{_≡_}
+use mathlib.Core.List.{List, [], _∷_}
+use Prim.Native.Nat.{ℕ, _-_}
+use lib.ListN.{length, take}
+use Rattle.flash.specs.Step.{run}
+use Rattle.answer.specs.declared.Went.{Went}
+use Rattle.answer.specs.declared.Went.the-variants.{Ended, Short}
+use Rattle.answer.specs.declared.Answer.{Answer}
+use Rattle.answer.specs.declared.Answer.the-variants.{Done, Stopped}
+use Rattle.answer.specs.Staged.{Staged, untag, left}
+
+-- the stage of the first step not made, or how many are still allowed
+abbrev pub wentTo : ℕ → List Staged → Went
+wentTo k [] = Ended k
+wentTo k (t ∷ ts) = Short (t .stage)
+
+unfoldable pub went : ℕ → List Staged → Went
+went n ts = wentTo (n - length ts) (left n ts)
+
+-- of the steps ts the first n were made on the image l, which left m, and r says how far they went
+pub record Made (ts : List Staged) (n : ℕ) (l m : List ℕ) (r : Went) : Type 0 where
+  pub image : m ≡ run (take n (untag ts)) l
+  pub answer : r ≡ went n ts
+
+-- the answer of a call, to which n steps were allowed
+abbrev pub toldOf : Went → ℕ → Answer
+toldOf (Ended k) n = Done (n - k)
+toldOf (Short x) n = Stopped x n
