@@ -3,5 +3,4 @@ mod chunks;
 mod stage;
 mod versions;
 
-pub use stage::blob_stage;
 pub use stage::make_blobs;

@@ -8,17 +8,13 @@ use flash::Ran;
 use found::Next;
 use found::Pass;
 use found::Rank;
-use table::Table;
 ghost use mathlib.Core.Path.{_≡_};
 ghost use mathlib.Core.List.{flatMap};
-ghost use Prim.Native.Nat.{_≤_, _<_};
-ghost use lib.ListN.{length};
+ghost use Prim.Native.Nat.{_<_};
 ghost use Rattle.flash.specs.Did.{Did};
-ghost use Rattle.crc.specs.Table.{crcTable};
 ghost use Rattle.lists.specs.Lists.{some-of, ascending};
-ghost use Rattle.table.specs.Table.{listed, Sized};
-ghost use Rattle.found.specs.Found.{Found, found, isPart};
-ghost use Rattle.found.specs.Places.{itemsAt, Each, Lies, Placed, Alike};
+ghost use Rattle.found.specs.Found.{Found, isPart};
+ghost use Rattle.found.specs.Places.{itemsAt, Each, Placed, Alike};
 ghost use Rattle.found.specs.Ranks.{rankNumber, limit, numbers};
 ghost use Rattle.blobs.specs.Blobs.{versionIn, judge, older, blobSteps};
 ghost use Rattle.blobs.specs.Search.{Gathered, stepsIn};
@@ -120,7 +116,7 @@ fn any_part(image: &[u8], places: &[u16]) -> bool
 // The stage, on the items at the places.
 pub fn make_blobs(image: &mut [u8], places: &[u16], allowed: u64) -> Ran
     requires { ⌜ Gathered (now image) (now places) ⌝ }
-    ensures { λ r. ⌜ Did (blobSteps (itemsAt (now (image .entry)) (now (places .entry)))) allowed (now (image .entry)) (now (image .exit)) r ⌝ }
+    ensures { λ r. ⌜ Did (blobSteps (itemsAt (now (image .entry)) (now (places .entry)))) allowed (now (image .entry)) (now (image .exit)) r × Alike (now (image .entry)) (now (image .exit)) ⌝ }
 {
     if !any_part(image, places) {
         return Ran::Done(allowed);
@@ -130,19 +126,4 @@ pub fn make_blobs(image: &mut [u8], places: &[u16], allowed: u64) -> Ran
         return Ran::Stopped;
     };
     in_order(image, places, Pass::Indices, left)
-}
-
-// The stage, on the items found on the listed pages, whose places are gathered into `out`.
-pub fn blob_stage(
-    t: &[u32; 324],
-    image: &mut [u8],
-    table: Table,
-    out: &mut [u16],
-    allowed: u64,
-) -> Ran
-    requires { ⌜ (now t ≡ crcTable) × Sized table × Each (Lies (now image)) (listed table) × (2016 ≤ length (now out)) ⌝ }
-    ensures { λ r. ⌜ Did (blobSteps (found (listed table) (now (image .entry)))) allowed (now (image .entry)) (now (image .exit)) r ⌝ }
-{
-    let n = found::gather(t, image, table, out);
-    make_blobs(image, &out[..n], allowed)
 }

@@ -4,7 +4,7 @@ use borrow.Author.Tests.{not-true}
 use borrow.Author.Needs.{needs}
 use Rattle.flash.proofs.Laws.{did-none, goes-start, goes-on, goes-stop, goes-last}
 use Rattle.found.specs.Places.{itemsAt}
-use Rattle.found.proofs.Alike.{each-alike, items-alike}
+use Rattle.found.proofs.Alike.{alike-refl, alike-trans, each-alike, items-alike}
 use Rattle.blobs.specs.Search.{stepsIn}
 use Rattle.blobs.specs.Blobs.{blobSteps}
 use Rattle.blobs.proofs.Parts.{no-step}
@@ -14,11 +14,13 @@ use Rattle.blobs.proofs.stage.make_blobs.Tie as tie
 returns : tie.Need-returns
 returns c =
     let a = c .before .before .before .before .before .args in
-    rw (no-step (itemsAt (a .image .now) (a .places .now)) (sym (c .before .any-part .ensures) ∙ not-true _ (c .if1 .taken))) (did-none _ _)
+    (rw (no-step (itemsAt (a .image .now) (a .places .now)) (sym (c .before .any-part .ensures) ∙ not-true _ (c .if1 .taken))) (did-none _ _), alike-refl _)
 
 returns-2 : tie.Need-returns-2
 unfolding blobSteps stepsIn
-returns-2 c = goes-stop _ (goes-start _ _ _) refl (c .before .before .before .before .in-order .ensures .0) (c .enum-told .given .1)
+returns-2 c =
+    let first = c .before .before .before .before .in-order .ensures in
+    (goes-stop _ (goes-start _ _ _) refl (first .0) (c .enum-told .given .1), first .1)
 
 in-order-requires-2 : tie.Need-in-order-requires-2
 in-order-requires-2 c κs = record { few = c .before .before .before .before .before .before .before .before .before .before .before .before .before .pre .few; each = each-alike _ _ (c .before .before .before .before .before .before .in-order .ensures .1) _ (c .before .before .before .before .before .before .before .before .before .before .before .before .before .pre .each) }
@@ -29,7 +31,8 @@ returns-3 c =
     let a = c .before .before .before .before .before .before .before .before .before .before .before .before .before .before .before .before in
     let first = c .before .before .before .before .before .before .before .before .before .in-order .ensures in
     let items = items-alike _ _ (first .1) (a .args .places .now) (a .pre .each) in
-    goes-last (goes-on (goes-start _ _ _) refl (first .0) (c .before .before .before .before .before .r .given .1)) (rw items at (c .before .before .in-order2 .ensures .0))
+    let second = c .before .before .in-order2 .ensures in
+    (goes-last (goes-on (goes-start _ _ _) refl (first .0) (c .before .before .before .before .before .r .given .1)) (rw items at (second .0)), alike-trans (first .1) (second .1))
 
 pub make-blobs-spec : {M : Type 1} → statement M
 make-blobs-spec =
