@@ -5,11 +5,9 @@ use mathlib.Core.List.{List, [], _∷_}
 use Prim.Native.Nat.{ℕ, _+_, _*_, _/_, _%_, _<_, _≤_}
 use native.Mathlib.Omega.{arith}
 use lib.ListN.{length, getD, take}
-use Rattle.word.specs.Number.{part, le}
-use Rattle.word.proofs.Bytes.{le-part}
+use Rattle.word.specs.Number.{part}
 use Rattle.entry.specs.Fields.{spanOf}
 use Rattle.flash.specs.declared.Ran.{Ran}
-use Rattle.flash.specs.Step.{sector}
 use Rattle.flash.specs.Did.{Did}
 use Rattle.flash.proofs.Order.{le-or-gt}
 use Rattle.flash.proofs.Every.{every-take}
@@ -17,6 +15,7 @@ use Rattle.flash.proofs.Frame.{In, Outside, length-run, part-same, run-other}
 use Rattle.item.specs.Erase.{erasing}
 use Rattle.item.proofs.Spans.{unmarking-in}
 use Rattle.found.specs.Places.{itemAt, itemsAt, Each, Placed, Alike}
+use Rattle.found.proofs.Lying.{sequence-same}
 
 pub alike-refl : (l : List ℕ) → Alike l l
 alike-refl l = record { size = refl; same = λ j o. refl }
@@ -48,15 +47,6 @@ module _ (l m : List ℕ) (like : Alike l m) where
   part-alike : (a n : ℕ) → ((j : ℕ) → a ≤ j → j < a + n → (j % 4096 < 32) ⊎ (64 ≤ j % 4096)) → part m a n ≡ part l a n
   part-alike a n f = part-same a n l m (like .size) (λ j g h. like .same j (f j g h))
 
-  sequence-alike : (u : ℕ) → le (sector u m) 4 4 ≡ le (sector u l) 4 4
-  unfolding sector
-  sequence-alike u =
-      let front : part m (u * 4096) 32 ≡ part l (u * 4096) 32 = part-alike (u * 4096) 32 (λ j a b. inl (omega arith)) in
-      within m u ∙ ap (λ (x : List ℕ). le x 4 4) front ∙ sym (within l u)
-    where
-      within : (x : List ℕ) (u : ℕ) → le (part x (u * 4096) 4096) 4 4 ≡ le (part x (u * 4096) 32) 4 4
-      within x u = le-part x (u * 4096) 4096 4 4 (omega arith) ∙ sym (le-part x (u * 4096) 32 4 4 (omega arith))
-
   head-alike : (p : ℕ) → 2 ≤ p % 128 → part m (p * 32) 32 ≡ part l (p * 32) 32
   head-alike p h = part-alike (p * 32) 32 (λ j a b. inr (omega arith))
 
@@ -66,7 +56,7 @@ module _ (l m : List ℕ) (like : Alike l m) where
       let head = head-alike p (h .entries) in
       let n = spanOf (part l (p * 32) 32) in
       let raw : part m (p * 32) (n * 32) ≡ part l (p * 32) (n * 32) = part-alike (p * 32) (n * 32) (λ j a b. inr (omega (arith, h .entries, h .ends))) in
-      rw (head, raw, sequence-alike (p / 128))
+      rw (head, raw, sequence-same l m (like .size) (λ j a b. like .same j (inl (omega arith))) (p / 128))
 
   pub placed-alike : (p : ℕ) → Placed l p → Placed m p
   placed-alike p h =

@@ -1,9 +1,12 @@
 -- What holds of each member of a list holds at each index, and of lists put together. Assumes nothing.
+use mathlib.Core.Path.{refl}
+use mathlib.Core.Logic.{inl, inr}
 use mathlib.Core.List.{List, [], _∷_, _++_}
 use Prim.Native.Nat.{ℕ, zero, suc, _<_, _≤_}
 use native.Mathlib.Omega.{arith}
 use lib.ListN.{length, getD, take}
 use lib.Seq.{getD-take, length-take-le}
+use Rattle.lists.proofs.Member.{_∈_}
 use Rattle.found.specs.Places.{Each}
 
 module _ {A : Type 0} (P : A → Type 0) where
@@ -12,6 +15,18 @@ module _ {A : Type 0} (P : A → Type 0) where
   each-at [] d h i k = absurd (omega arith)
   each-at (x ∷ xs) d h zero k = h .0
   each-at (x ∷ xs) d h (suc i) k = each-at xs d (h .1) i (omega arith)
+
+  -- what holds of whatever stands in it
+  pub each-of : (xs : List A) → ((x : A) → x ∈ xs → P x) → Each P xs
+  unfolding Each
+  each-of [] f = tt
+  each-of (x ∷ xs) f = (f x (inl refl), each-of xs (λ y m. f y (inr m)))
+
+  pub of-each : (xs : List A) → Each P xs → (x : A) → x ∈ xs → P x
+  unfolding Each
+  of-each [] h x m = absurd m
+  of-each (y ∷ xs) h x (inl e) = rw e (h .0)
+  of-each (y ∷ xs) h x (inr m) = of-each xs (h .1) x m
 
   pub each-append : (xs ys : List A) → Each P xs → Each P ys → Each P (xs ++ ys)
   unfolding Each

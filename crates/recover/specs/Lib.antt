@@ -1,1 +1,2 @@
 pub mod Recover
+pub mod Promise

@@ -1,4 +1,4 @@
-// Recovery: what power loss left unfinished is finished, and what is found twice is left once.
+// Recovery: what power loss left unfinished is finished, and what is there twice is left once.
 mod stages;
 
 use answer::Answer;
@@ -6,48 +6,60 @@ use answer::Went;
 use page::PageRecord;
 use records::Rows;
 use table::Table;
+ghost use mathlib.Core.Path.{_≡_};
+ghost use lib.ListN.{length};
+ghost use Rattle.table.specs.Table.{listed, Sized};
+ghost use Rattle.records.specs.Records.{noRows};
+ghost use Rattle.recover.specs.Recover.{tooHigh};
+ghost use Rattle.recover.specs.Promise.{Recovers, RecoverPromise};
 
-// The answer, and the records to store: none where the call is refused or stopped.
+// The answer, and the rows to store: none where the call is refused or stopped.
 pub struct Recovered {
     pub answer: Answer,
     pub rows: Rows,
 }
 
-// Whether the sequences that finishing takes might not be there.
-fn is_too_high(lists: Table) -> bool {
-    let k = finishing::count_freeing(lists);
-    if k == 0 {
+// Whether the sequences that stage 2 might take are not there.
+fn is_too_high(lists: Table) -> bool
+    requires { ⌜ Sized lists ⌝ }
+    ensures { λ r. ⌜ r ≡ tooHigh (listed lists) ⌝ }
+{
+    let count = finishing::count_freeing(lists);
+    if count == 0 {
         return false;
     }
-    let top = table::greatest_sequence(lists) as usize;
-    0xFFFF_FFFE - k < top
+    0xFFFF_FFFE - count < table::greatest_sequence(lists) as usize
 }
 
-fn refused(answer: Answer) -> Recovered {
+fn without_rows(answer: Answer) -> Recovered
+    ensures { λ r. ⌜ (r .answer ≡ answer) × (r .rows ≡ noRows) ⌝ }
+{
     Recovered {
         answer,
         rows: records::no_rows(),
     }
 }
 
-// Recovers the image by at most `allowance` steps. `lent` is how many records the caller has.
-fn recover_image(image: &mut [u8], lent: usize, allowance: u64) -> Recovered {
+// Recovers the image by at most `allowance` steps, where `lent` records are lent.
+pub fn recover_image(image: &mut [u8], lent: usize, allowance: u64) -> Recovered
+    ensures { λ r. ⌜ Recovers (now (image .entry)) lent allowance (now (image .exit)) r ⌝ }
+{
     if !table::is_whole(image) {
-        return refused(Answer::NotSectors);
+        return without_rows(Answer::NotSectors);
     }
     let sectors = image.len() / 4096;
     if lent < sectors {
-        return refused(Answer::FewRecords);
+        return without_rows(Answer::FewRecords);
     }
     let t = crc::table();
     let lists = table::scan(&t, image, sectors);
     if is_too_high(lists) {
-        return refused(Answer::SequencesSpent);
+        return without_rows(Answer::SequencesSpent);
     }
     let went = stages::make_stages(&t, image, lists, allowance);
     let answer = answer::told(went, allowance);
     let Went::Ended(_) = went else {
-        return refused(answer);
+        return without_rows(answer);
     };
     Recovered {
         answer,
@@ -56,7 +68,9 @@ fn recover_image(image: &mut [u8], lent: usize, allowance: u64) -> Recovered {
 }
 
 // Recovers the image by at most `allowance` steps. After the last step the page records go into `records`, one a sector.
-pub fn recover(image: &mut [u8], records: &mut [PageRecord], allowance: u64) -> Answer {
+pub fn recover(image: &mut [u8], records: &mut [PageRecord], allowance: u64) -> Answer
+    ensures { λ r. ⌜ RecoverPromise (now (image .entry)) (now (records .entry)) allowance (now (image .exit)) (now (records .exit)) r ⌝ }
+{
     let made = recover_image(image, records.len(), allowance);
     records::fill(records, made.rows);
     made.answer

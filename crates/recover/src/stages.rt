@@ -3,29 +3,61 @@ use answer::Stage;
 use answer::Went;
 use flash::Ran;
 use table::Table;
+ghost use mathlib.Core.Path.{_≡_};
+ghost use mathlib.Core.List.{map};
+ghost use Prim.Native.Nat.{_+_, _≤_, _*_};
+ghost use lib.ListN.{length, take};
+ghost use Rattle.crc.specs.Table.{crcTable};
+ghost use Rattle.lists.specs.Lists.{greatest};
+ghost use Rattle.answer.specs.Went.{Made};
+ghost use Rattle.table.specs.Table.{sectorsOf, pages, frees, sequence, listed, freed, Sized, Holds};
+ghost use Rattle.table.specs.Placed.{Placed};
+ghost use Rattle.found.specs.Found.{found};
+ghost use Rattle.found.specs.Places.{placeOf, Each, Lies};
+ghost use Rattle.finishing.specs.Finishing.{freeings};
+ghost use Rattle.recover.specs.Recover.{lastStages, fromOrder, fromFinish, recovering, tooHigh};
+ghost use mathlib.Core.Bool.{false};
 
-// Stages 3 and 4 each judge by the items found as they begin: the places gathered for stage 3 serve stage 4 where stage 3 changed nothing.
-fn last_stages(t: &[u32; 324], image: &mut [u8], lists: Table, allowed: u64) -> Went {
-    let mut places = [0u16; 2016];
-    let mut sorted = [0u16; 2016];
-    let n = found::gather(t, image, lists, &mut places);
+// Stages 3 and 4, each on the items found as it begins: those of stage 3 stand in the first `n` of `places`.
+fn repair(
+    t: &[u32; 324],
+    image: &mut [u8],
+    lists: Table,
+    places: &mut [u16],
+    n: usize,
+    sorted: &mut [u16],
+    allowed: u64,
+) -> Went
+    requires { ⌜ (now t ≡ crcTable) × Sized lists × Placed (sectorsOf (now image)) (listed lists) (freed lists) × Each (Lies (now image)) (listed lists) × (take n (now places) ≡ map placeOf (found (listed lists) (now image))) × (n ≤ 2016) × (2016 ≤ length (now places)) × (2016 ≤ length (now sorted)) ⌝ }
+    ensures { λ r. ⌜ Made (lastStages (listed lists) (now (image .entry))) allowed (now (image .entry)) (now (image .exit)) r ⌝ }
+{
     let r = blobs::make_blobs(image, &places[..n], allowed);
     let Ran::Done(left) = r else {
         return Went::Short(Stage::Blobs);
     };
-    let mut m = n;
-    if left != allowed {
-        m = found::gather(t, image, lists, &mut places);
-    }
-    let r = duplicates::duplicate_stage(image, lists, &places[..m], &mut sorted, left);
+    let m = found::gather(t, image, lists, places);
+    let r = duplicates::duplicate_stage(image, lists, &places[..m], sorted, left);
     let Ran::Done(rest) = r else {
         return Went::Short(Stage::Duplicates);
     };
     Went::Ended(rest)
 }
 
+fn last_stages(t: &[u32; 324], image: &mut [u8], lists: Table, allowed: u64) -> Went
+    requires { ⌜ (now t ≡ crcTable) × Sized lists × Placed (sectorsOf (now image)) (listed lists) (freed lists) × Each (Lies (now image)) (listed lists) ⌝ }
+    ensures { λ r. ⌜ Made (lastStages (listed lists) (now (image .entry))) allowed (now (image .entry)) (now (image .exit)) r ⌝ }
+{
+    let mut places = [0u16; 2016];
+    let mut sorted = [0u16; 2016];
+    let n = found::gather(t, image, lists, &mut places);
+    repair(t, image, lists, &mut places, n, &mut sorted, allowed)
+}
+
 // Stage 1 on the lists as they were scanned, then stages 3 and 4.
-fn from_order(t: &[u32; 324], image: &mut [u8], lists: Table, allowed: u64) -> Went {
+fn from_order(t: &[u32; 324], image: &mut [u8], lists: Table, allowed: u64) -> Went
+    requires { ⌜ (now t ≡ crcTable) × Holds lists (pages (now image)) (frees (now image)) × (sectorsOf (now image) ≤ 16) ⌝ }
+    ensures { λ r. ⌜ Made (fromOrder (pages (now (image .entry))) (now (image .entry))) allowed (now (image .entry)) (now (image .exit)) r ⌝ }
+{
     let r = order::make_order(image, lists, allowed);
     let Ran::Done(left) = r else {
         return Went::Short(Stage::Order);
@@ -33,14 +65,17 @@ fn from_order(t: &[u32; 324], image: &mut [u8], lists: Table, allowed: u64) -> W
     last_stages(t, image, order::order_table(lists), left)
 }
 
-// Stage 2, then the scan and stage 1 again.
+// Stage 2, `count` rounds of it, then the scan and stage 1 again.
 fn from_finish(
     t: &[u32; 324],
     image: &mut [u8],
     lists: Table,
     count: usize,
     allowed: u64,
-) -> Went {
+) -> Went
+    requires { ⌜ (now t ≡ crcTable) × Sized lists × Placed (sectorsOf (now image)) (listed lists) (freed lists) × (count ≡ freeings (listed lists)) × (greatest sequence (listed lists) + count ≤ 0xFFFF_FFFE) × (length (now image) ≡ sectorsOf (now image) * 4096) × (sectorsOf (now image) ≤ 16) ⌝ }
+    ensures { λ r. ⌜ Made (fromFinish (listed lists) (freed lists) (now (image .entry))) allowed (now (image .entry)) (now (image .exit)) r ⌝ }
+{
     let r = finishing::finish_all(t, image, lists, count, allowed);
     let Went::Ended(left) = r else {
         return r;
@@ -51,7 +86,10 @@ fn from_finish(
 }
 
 // All stages, where `lists` are what the scan found.
-pub fn make_stages(t: &[u32; 324], image: &mut [u8], lists: Table, allowed: u64) -> Went {
+pub fn make_stages(t: &[u32; 324], image: &mut [u8], lists: Table, allowed: u64) -> Went
+    requires { ⌜ (now t ≡ crcTable) × Holds lists (pages (now image)) (frees (now image)) × (length (now image) ≡ sectorsOf (now image) * 4096) × (sectorsOf (now image) ≤ 16) × (tooHigh (pages (now image)) ≡ false) ⌝ }
+    ensures { λ r. ⌜ Made (recovering (now (image .entry))) allowed (now (image .entry)) (now (image .exit)) r ⌝ }
+{
     let r = order::make_order(image, lists, allowed);
     let Ran::Done(left) = r else {
         return Went::Short(Stage::Order);

@@ -7,3 +7,4 @@ pub mod Out
 pub mod Seeking
 pub mod Places
 pub mod Held
+pub mod Scanned
