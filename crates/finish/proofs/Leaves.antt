@@ -36,7 +36,10 @@ module _ (k : List ℕ) (b : ℕ) (small : b < 0x100000000) (x : Page) where
   afresh-stands ps fs l e h q = go (getLast? fs) refl
     where
       -- the page that the copy makes
-      moved : (t : ℕ) → t ∈ fs → sequence (pageAt t (run (moving (x .sector) t (nextSequence x ps) (itemsIn (x .sector) l) l) l)) ≤ nextSequence x ps
+      made : ℕ → Page
+      made t = pageAt t (run (moving (x .sector) t (nextSequence x ps) (itemsIn (x .sector) l) l) l)
+
+      moved : (t : ℕ) → t ∈ fs → sequence (made t) ≤ nextSequence x ps
       moved t m =
           unfold itemsIn in (
           let r = moved-sequence (nextSequence x ps) (sector (x .sector) l) (x .sector) t l (free-other h x (inl refl) t m) (free-fits k l h e t m) (omega arith) in
@@ -53,7 +56,7 @@ module _ (k : List ℕ) (b : ℕ) (small : b < 0x100000000) (x : Page) where
 
       go : (o : Option ℕ) → getLast? fs ≡ o → Stands (sectorsOf k) b (afresh x ps fs l o)
       go none r = record { placed = full-placed x h; below = unfold greatest in omega arith }
-      go (some t) r = let p = pageAt t (run (moving (x .sector) t (nextSequence x ps) (itemsIn (x .sector) l) l) l) in record { placed = moved-placed x p h r; below = most p (moved t (last-in fs t r)) }
+      go (some t) r = record { placed = moved-placed x (made t) h r; below = most (made t) (moved t (last-in fs t r)) }
 
   with-stands : (ps : List Page) (fs : List ℕ) → Placed (sectorsOf k) (x ∷ ps) fs → nextSequence x ps ≤ b → (o : Option Page) → firstOf activePage ps ≡ o
       → Stands (sectorsOf k) b (roundWith x ps fs k o)
