@@ -18,7 +18,7 @@ use Rattle.answer.specs.declared.Went.{Went}
 use Rattle.answer.specs.declared.Went.the-variants.{Ended, Short}
 use Rattle.answer.specs.declared.Answer.the-variants.{Done as DoneAll, Stopped as StoppedAt}
 use Rattle.answer.specs.Staged.{Staged, tag, untag, left, stoppedAt, answerOf}
-use Rattle.answer.specs.Went.{wentTo, went, Made, toldOf}
+use Rattle.answer.specs.Went.{wentTo, went, Made, Making, toldOf}
 use Rattle.answer.proofs.Tagged.{length-tag, left-none}
 
 -- ---- lists
@@ -159,6 +159,27 @@ made-stop {a} b {n} {l} {m} {x} d =
       image = rw (untag-append a b) (did-stop (untag b) (short-did d) .image);
       answer = d .answer ∙ sym (went-gt n a b (short-over n x a (d .answer)));
     }
+
+-- ---- what is left to make
+
+pub making-start : (ts : List Staged) (n : ℕ) (l : List ℕ) → Making ts n l ts n l
+making-start ts n l = record { on = λ m r d. d }
+
+module _ {T ts : List Staged} {N n : ℕ} {L l : List ℕ} (g : Making T N L ts n l) where
+  -- steps of the stage x that ended, where what is left goes by the image that they left
+  pub making-then : (x : Stage) {ss : List Step} {k : ℕ} {m : List ℕ} {r : Ran} (f : List ℕ → List Staged) → ts ≡ tag x ss ++ f (run ss l) → Did ss n l m r → r ≡ Done k
+      → Making T N L (f m) k m
+  making-then x f e d q =
+      let i = did-all (rw q at d) in
+      record { on = λ m′ r w. g .on m′ r (rw (e, ← i) (made-then (made-tag x (rw q at d)) w)) }
+
+  -- steps that stopped
+  pub making-stop : (x : Stage) {ss : List Step} {m : List ℕ} {r : Ran} (us : List Staged) → ts ≡ tag x ss ++ us → Did ss n l m r → r ≡ Stopped → Made T N L m (Short x)
+  making-stop x us e d q = g .on _ _ (rw e (made-stop us (made-tag-short x (rw q at d))))
+
+  -- nothing left
+  pub making-end : ts ≡ [] → Made T N L l (Ended n)
+  making-end e = g .on _ _ (rw e (made-none _ _))
 
 -- ---- the answer
 

@@ -23,6 +23,11 @@ pub record Made (ts : List Staged) (n : ℕ) (l m : List ℕ) (r : Went) : Type 
   pub image : m ≡ run (take n (untag ts)) l
   pub answer : r ≡ went n ts
 
+-- whoever makes the steps ts on the image l with n allowed has then made T on L with N allowed: what holds between the stages that make up T, and each
+-- time round a loop
+pub record Making (T : List Staged) (N : ℕ) (L : List ℕ) (ts : List Staged) (n : ℕ) (l : List ℕ) : Type 0 where
+  pub on : (m : List ℕ) (r : Went) → Made ts n l m r → Made T N L m r
+
 -- the answer of a call, to which n steps were allowed
 abbrev pub toldOf : Went → ℕ → Answer
 toldOf (Ended k) n = Done (n - k)

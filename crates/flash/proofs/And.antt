@@ -1,8 +1,8 @@
 -- The AND of two bytes goes digit by digit. Assumes nothing.
 use mathlib.Core.Path.{_≡_, ap, _∙_}
-use Prim.Native.Nat.{ℕ, _/_, _%_, _^_, _<_}
+use Prim.Native.Nat.{ℕ, _/_, _%_, _^_, _<_, _≤_}
 use native.Mathlib.Nat.{mod-eq-of-lt}
-use lib.Bits.{and-comm, and-zero-r, and-mask, and-shr, and-mod}
+use lib.Bits.{and-comm, and-zero-r, and-le-l, and-le-r, and-mask, and-shr, and-mod}
 use Rattle.flash.specs.Step.{and8}
 
 pub and8-comm : (x y : ℕ) → and8 x y ≡ and8 y x
@@ -12,6 +12,15 @@ and8-comm x y = and-comm x y
 pub and8-none : (x : ℕ) → and8 x 0 ≡ 0
 unfolding and8
 and8-none x = and-zero-r x
+
+-- it is at most either
+pub and8-left : (x y : ℕ) → and8 x y ≤ x
+unfolding and8
+and8-left x y = and-le-l x y
+
+pub and8-right : (x y : ℕ) → and8 x y ≤ y
+unfolding and8
+and8-right x y = and-le-r x y
 
 -- a byte ANDed with ones, and ones with a byte
 pub and8-full : (x : ℕ) → x < 256 → and8 x 0xFF ≡ x

@@ -8,4 +8,5 @@ pub mod Every
 pub mod Frame
 pub mod Lent
 pub mod Words
+pub mod Lower
 pub mod Sectors

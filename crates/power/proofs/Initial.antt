@@ -2,7 +2,7 @@
 use mathlib.Core.Path.{_∙_, _≡_, ap, refl, sym}
 use mathlib.Core.Logic.{inl, inr}
 use mathlib.Core.Bool.{true}
-use mathlib.Core.List.{List, [], _++_}
+use mathlib.Core.List.{List, []}
 use Prim.Native.Nat.{_%_, _*_, _+_, _/_, _<_, _^_, _≤_, suc, zero, ℕ}
 use native.Mathlib.Omega.{arith}
 use lib.ListN.{getD, length, length-drop, length-take, take}
@@ -11,7 +11,7 @@ use Rattle.word.specs.Number.{part}
 use Rattle.word.proofs.Bytes.{part-byte}
 use Rattle.entry.specs.States.{empty, stateAt}
 use Rattle.page.specs.State.{isFree, stateOf}
-use Rattle.flash.specs.Step.{Step, run}
+use Rattle.flash.specs.Step.{run}
 use Rattle.flash.specs.Words.{words}
 use Rattle.flash.proofs.Frame.{AllIn, In, length-run, run-other}
 use Rattle.flash.proofs.Words.{words-in, words-read}
@@ -19,16 +19,13 @@ use Rattle.flash.proofs.Laws.{run-append}
 use Rattle.flash.proofs.Every.{every-take}
 use Rattle.item.specs.Initialise.{header}
 use Rattle.item.proofs.Header.{header-length, header-small}
+use Rattle.relocate.proofs.Filling.{initSteps}
 use Rattle.power.proofs.Read.{Word4, state-free}
 use Rattle.power.proofs.Shape.{Shape}
 
 -- ones from byte a on
 abbrev pub Ones : List ℕ → ℕ → Type 0
 Ones T a = (i : ℕ) → a ≤ i → i < 4096 → getD T i 0 ≡ 0xFF
-
--- the words of the header, the state word last
-abbrev pub initSteps : ℕ → List Step
-initSteps q = words 0 (header q) 1 7 ++ words 0 (header q) 0 1
 
 module _ (q : ℕ) (T : List ℕ) (len : length T ≡ 4096) (on : Ones T 0) where
   abbrev T1 : List ℕ

@@ -2,7 +2,7 @@
 use mathlib.Core.Path.{_∙_, _≡_, refl, sym}
 use mathlib.Core.Logic.{_⊎_, inl, inr, ⊎-elim}
 use mathlib.Core.Bool.{Bool, cond, false, true}
-use mathlib.Core.List.{List, [], _++_, _∷_, append-assoc}
+use mathlib.Core.List.{List, [], _++_, _∷_}
 use Prim.Native.Nat.{_*_, _+_, _≤_, suc, zero, ℕ}
 use native.Mathlib.Omega.{arith}
 use lib.ListN.{length, take}
@@ -14,15 +14,15 @@ use Rattle.flash.specs.Step.{Step, apply, blank, erase, run, sector}
 use Rattle.flash.proofs.Erased.{blank-byte, length-sector, sector-erased}
 use Rattle.flash.proofs.Frame.{AllIn, In, length-run, sector-kept}
 use Rattle.flash.proofs.Laws.{cut-append, run-append}
-use Rattle.flash.proofs.Lent.{AllFit, Fit, sector-local, shift, shift-append, shift-in, take-shift}
+use Rattle.flash.proofs.Lent.{AllFit, Fit, sector-local, shift, shift-in, take-shift}
 use Rattle.flash.proofs.Every.{every-append, every-one, every-take}
-use Rattle.item.specs.Initialise.{clearing, header, initialising}
-use Rattle.item.proofs.Local.{header-fit, header-shift}
+use Rattle.item.specs.Initialise.{clearing, header}
+use Rattle.item.proofs.Local.{header-fit}
 use Rattle.item.proofs.Clearing.{clearing-in}
 use Rattle.item.proofs.Ones.{ones-byte}
 use Rattle.relocate.specs.Move.{copies, moving}
-use Rattle.relocate.proofs.Local.{copies-shift}
-use Rattle.power.proofs.Initial.{Ones, high, init-junk, init-shape, init-word, initSteps}
+use Rattle.relocate.proofs.Filling.{fill, initSteps, moving-fills}
+use Rattle.power.proofs.Initial.{Ones, high, init-junk, init-shape, init-word}
 use Rattle.power.proofs.Read.{state-free}
 use Rattle.power.proofs.Shape.{AllFine, raws}
 use Rattle.power.proofs.Copies.{Going, Ready, copies-cut, copies-end, fine-fit, spans}
@@ -38,10 +38,6 @@ blank-free = state-free (blank 4096) (blank-byte 4096 0 (omega arith))
 
 pub erase-in : (u : ℕ) → AllIn (u * 4096) (u * 4096 + 4096) (erase u ∷ [])
 erase-in u = every-one (In (u * 4096) (u * 4096 + 4096)) (erase u) (omega arith, omega arith)
-
--- what is written to the target
-abbrev pub fill : ℕ → List Laid → List Step
-fill q xs = initSteps q ++ copies 0 0 xs
 
 module _ (q : ℕ) (xs : List Laid) (F : AllFine (raws xs)) (fit : spans (raws xs) ≤ 126) where
   module _ (T : List ℕ) (len : length T ≡ 4096) (on : Ones T 0) where
@@ -87,12 +83,6 @@ module _ (q : ℕ) (xs : List Laid) (F : AllFine (raws xs)) (fit : spans (raws x
     ended : ((u : ℕ) → (u ≡ t → ⊥) → (u ≡ s → ⊥) → sector u m ≡ sector u l) → Ready q (raws xs) (sector t m) → sector s m ≡ blank 4096 → Cut s t l m
 
   module _ (s t : ℕ) (l : List ℕ) (ht : t * 4096 + 4096 ≤ length l) (hs : s * 4096 + 4096 ≤ length l) (ne : s ≡ t → ⊥) (free : isFree (stateOf (sector t l)) ≡ true) where
-    moving-is : moving s t q xs l ≡ clearing t l ++ (shift (t * 4096) (fill q xs) ++ (erase s ∷ []))
-    unfolding moving initialising
-    moving-is =
-        rw
-        (header-shift (t * 4096) (header q), copies-shift (t * 4096) 0 xs, append-assoc (clearing t l) (shift (t * 4096) (initSteps q)) (shift (t * 4096) (copies 0 0 xs) ++ (erase s ∷ [])), ← (append-assoc (shift (t * 4096) (initSteps q)) (shift (t * 4096) (copies 0 0 xs)) (erase s ∷ [])), ← (shift-append (t * 4096) (initSteps q) (copies 0 0 xs)))
-
     -- after the clearing
     abbrev l1 : List ℕ
     l1 = run (clearing t l) l
@@ -153,11 +143,11 @@ module _ (q : ℕ) (xs : List Laid) (F : AllFine (raws xs)) (fit : spans (raws x
     -- the end: the target has the items, and the source is blank
     pub move-end : ((u : ℕ) → (u ≡ t → ⊥) → (u ≡ s → ⊥) → sector u (run (moving s t q xs l) l) ≡ sector u l) × Ready q (raws xs) (sector t (run (moving s t q xs l) l)) × (sector s (run (moving s t q xs l) l) ≡ blank 4096)
     move-end =
-        rw (moving-is, run-append (clearing t l) (shift (t * 4096) (fill q xs) ++ (erase s ∷ [])) l, run-append (shift (t * 4096) (fill q xs)) (erase s ∷ []) l1) whole
+        rw (moving-fills s t q xs l, run-append (clearing t l) (shift (t * 4096) (fill q xs) ++ (erase s ∷ [])) l, run-append (shift (t * 4096) (fill q xs)) (erase s ∷ []) l1) whole
 
     -- and every cut
     pub move-cut : (k : ℕ) → Cut s t l (run (take k (moving s t q xs l)) l)
-    move-cut k = rw moving-is (⊎-elim
+    move-cut k = rw (moving-fills s t q xs l) (⊎-elim
         (λ e. rw e (unmade (λ u a. sector-kept u t (take k (clearing t l)) l a (every-take (In (t * 4096) (t * 4096 + 4096)) k _ (clearing-in t l))) (clear-cut k)))
         (λ e. rw (e .1) (rw (run-append (clearing t l) (take (suc (e .0)) (shift (t * 4096) (fill q xs) ++ (erase s ∷ []))) l) (past (e .0))))
         (cut-append k (clearing t l) (shift (t * 4096) (fill q xs) ++ (erase s ∷ []))))

@@ -1,3 +1,4 @@
 pub mod Turns
 pub mod Local
+pub mod Filling
 pub mod Safe

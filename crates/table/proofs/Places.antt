@@ -15,7 +15,7 @@ use Rattle.lists.proofs.Member.{_∈_, none≢some}
 use Rattle.lists.proofs.Sums.{sum-ge, sum-append, greatest-ge, greatest-lt}
 use Rattle.lists.proofs.Out.{sum-out, out-in}
 use Rattle.table.specs.declared.Page.{Page}
-use Rattle.table.specs.Table.{inSector, sectorsOf, sequence}
+use Rattle.table.specs.Table.{inSector, sectorsOf, sequence, asFull}
 use Rattle.table.specs.Placed.{timesIn, Placed}
 
 -- an element of the front of an array is a member of it
@@ -155,6 +155,40 @@ freed-placed {n} {ps} {fs} x y h m =
           let d = length-append fs (y .sector ∷ []) in
           omega (arith, h .sixteen);
     }
+
+-- the source joins the free sectors
+pub source-placed : {n : ℕ} {ps : List Page} {fs : List ℕ} (x : Page) → Placed n (x ∷ ps) fs → Placed n ps (fs ++ (x .sector ∷ []))
+unfolding timesIn sumOf
+source-placed {n} {ps} {fs} x h =
+    record {
+      once = λ u. let a = sum-append (λ (v : ℕ). one (eqb v u)) fs (x .sector ∷ []) in let b = h .once u in omega arith;
+      sixteen = let a = length-append fs (x .sector ∷ []) in omega (arith, h .sixteen);
+    }
+
+-- it goes to the last of them, where a page stands then
+pub moved-placed : {n : ℕ} {ps : List Page} {fs : List ℕ} (x p : Page) → Placed n (x ∷ ps) fs → getLast? fs ≡ some (p .sector) → Placed n (ps ++ (p ∷ [])) (dropLast fs ++ (x .sector ∷ []))
+unfolding timesIn sumOf
+moved-placed {n} {ps} {fs} x p h e =
+    record {
+      once = λ u.
+          let a = sum-append (λ (q : Page). one (inSector u q)) ps (p ∷ []) in
+          let b = sum-append (λ (v : ℕ). one (eqb v u)) (dropLast fs) (x .sector ∷ []) in
+          let c = sum-front (λ (v : ℕ). one (eqb v u)) fs (p .sector) e in
+          let d = h .once u in
+          omega arith;
+      sixteen =
+          let a = length-append ps (p ∷ []) in
+          let b = length-append (dropLast fs) (x .sector ∷ []) in
+          let c = sum-front (λ (v : ℕ). 1) fs (p .sector) e in
+          let d = length-sum (dropLast fs) in
+          let f = length-sum fs in
+          omega (arith, h .sixteen);
+    }
+
+-- it counts as Full, where it stood
+pub full-placed : {n : ℕ} {ps : List Page} {fs : List ℕ} (x : Page) → Placed n (x ∷ ps) fs → Placed n (asFull x ∷ ps) fs
+unfolding timesIn sumOf
+full-placed x h = record { once = h .once; sixteen = h .sixteen }
 
 -- a page is taken out
 pub out-placed : {n : ℕ} {ps : List Page} {fs : List ℕ} (p : Page → Bool) → Placed n ps fs → Placed n (takeOut p ps) fs

@@ -39,6 +39,18 @@ number-ext f g zero h = refl
 number-ext f g (suc n) h =
     ap₂ (λ (a b : ℕ). a + 256 * b) (h 0 (zero-lt-suc n)) (number-ext (λ j. f (suc j)) (λ j. g (suc j)) n (λ j l. h (suc j) (omega arith)))
 
+-- and is no greater where no byte is
+number-le : (f g : ℕ → ℕ) (n : ℕ) → ((j : ℕ) → j < n → f j ≤ g j) → number f n ≤ number g n
+number-le f g zero h = omega arith
+number-le f g (suc n) h =
+    let a = h 0 (zero-lt-suc n) in
+    let b = number-le (λ j. f (suc j)) (λ j. g (suc j)) n (λ j l. h (suc j) (omega arith)) in
+    omega arith
+
+pub le-le : (s t : List ℕ) (at n : ℕ) → ((j : ℕ) → j < n → getD s (at + j) 0 ≤ getD t (at + j) 0) → le s at n ≤ le t at n
+unfolding le
+le-le s t at n h = number-le (λ j. getD s (at + j) 0) (λ j. getD t (at + j) 0) n h
+
 -- a byte of a part
 pub part-byte : (s : List ℕ) (at n i : ℕ) → i < n → getD (part s at n) i 0 ≡ getD s (at + i) 0
 part-byte s at n i h = getD-take n (drop at s) i 0 h ∙ getD-drop at s i 0
