@@ -1,6 +1,6 @@
 -- Steps with stages, in sequence: the first so many of a list, and what the next ones find. Assumes nothing.
 use mathlib.Core.Path.{_≡_, refl, sym, ap, _∙_}
-use mathlib.Core.List.{List, [], _∷_, _++_, map-append, append-nil}
+use mathlib.Core.List.{List, [], _∷_, _++_, map}
 use mathlib.Core.Logic.{_⊎_, inl, inr}
 use Prim.Native.Nat.{ℕ, zero, suc, _+_, _-_, _≤_, _<_}
 use native.Mathlib.Omega.{arith}
@@ -32,6 +32,15 @@ pub untag-append : (a b : List Staged) → untag (a ++ b) ≡ untag a ++ untag b
 unfolding untag
 untag-append [] b = refl
 untag-append (t ∷ a) b = ap {B = List Step} (λ (r : List Step). t .step ∷ r) (untag-append a b)
+
+pub untag-take : (n : ℕ) (ts : List Staged) → length (take n ts) ≡ length (take n (untag ts))
+unfolding untag
+untag-take n ts = sym (ap length (take-map n ts) ∙ length-map (take n ts) (λ (t : Staged). t .step))
+  where
+    take-map : (n : ℕ) (ts : List Staged) → take n (map (λ (t : Staged). t .step) ts) ≡ map (λ (t : Staged). t .step) (take n ts)
+    take-map zero ts = refl
+    take-map (suc n) [] = refl
+    take-map (suc n) (t ∷ ts) = ap {B = List Step} (λ (r : List Step). t .step ∷ r) (take-map n ts)
 
 -- ---- how far steps go
 

@@ -9,7 +9,7 @@ use lib.Seq.{take-all, length-take-le}
 use Rattle.flash.specs.Step.{Step}
 use Rattle.answer.specs.declared.Stage.{Stage}
 use Rattle.answer.specs.declared.Answer.the-variants.{Done, Stopped}
-use Rattle.answer.specs.Answer.{refusal}
+use Rattle.answer.specs.Answer.{refusal, stepsOf}
 use Rattle.answer.specs.Staged.{Staged, tag, stoppedAt, left, answerOf}
 
 pub length-tag : (x : Stage) (ss : List Step) → length (tag x ss) ≡ length ss
@@ -48,5 +48,13 @@ unfolding answerOf
 made-no-refusal n ts = go (left n ts)
   where
     go : (us : List Staged) → refusal (stoppedAt (length (take n ts)) us) ≡ false
+    go [] = refl
+    go (u ∷ us) = refl
+
+pub steps-told : (n : ℕ) (ts : List Staged) → stepsOf (answerOf n ts) ≡ length (take n ts)
+unfolding answerOf
+steps-told n ts = go (left n ts)
+  where
+    go : (us : List Staged) → stepsOf (stoppedAt (length (take n ts)) us) ≡ length (take n ts)
     go [] = refl
     go (u ∷ us) = refl

@@ -1,10 +1,10 @@
 -- What recovery promises: of the image l and the lent records ys, with n steps allowed, the image m, the records zs and the answer r. Assumes nothing.
 use mathlib.Core.Path.{_≡_}
 use mathlib.Core.Bool.{cond}
-use mathlib.Core.List.{List, []}
+use mathlib.Core.List.{List, [], _++_}
 use Prim.Native.Nat.{ℕ, _≤_}
 use lib.Dec.{leb}
-use lib.ListN.{length, take}
+use lib.ListN.{length, take, drop}
 use Rattle.flash.specs.Step.{Step, run}
 use Rattle.answer.specs.declared.Answer.{Answer}
 use Rattle.answer.specs.declared.Answer.the-variants.{Done, NotSectors, FewRecords, ActiveStands, AllWritten, NoFreeSector, SequencesSpent, Stopped, NotReclaimable}
@@ -12,7 +12,7 @@ use Rattle.answer.specs.Staged.{untag, answerOf}
 use Rattle.page.specs.declared.«record».PageRecord.{PageRecord}
 use Rattle.table.specs.Table.{sectorsOf, wholeSectors, pages}
 use Rattle.records.specs.declared.Rows.{Rows}
-use Rattle.records.specs.Records.{recordsTo, filled, noRows, RowsOf}
+use Rattle.records.specs.Records.{recordsTo, noRows, RowsOf}
 use Rattle.recover.specs.declared.Recovered.{Recovered}
 use Rattle.recover.specs.Recover.{tooHigh, recovering, recovery}
 
@@ -27,9 +27,10 @@ recoverAnswer l lent n = cond (wholeSectors l) (cond (leb (sectorsOf l) lent) (w
 unfoldable pub calling : List ℕ → ℕ → List Step
 calling l lent = cond (leb (sectorsOf l) lent) (untag (recovery l)) []
 
--- "recovery fills the records" where the list of steps ended, on the image m; every other answer leaves them
+-- "recovery fills the records" where the list of steps ended, by the image m that it left; "Records past the sectors stay unchanged", and every other answer
+-- leaves them all
 unfoldable pub recordsAfter : Answer → List ℕ → List PageRecord → List PageRecord
-recordsAfter (Done k) m ys = filled (sectorsOf m) (recordsTo m (sectorsOf m)) ys
+recordsAfter (Done k) m ys = recordsTo m (sectorsOf m) ++ drop (sectorsOf m) ys
 recordsAfter NotSectors m ys = ys
 recordsAfter FewRecords m ys = ys
 recordsAfter ActiveStands m ys = ys

@@ -66,13 +66,7 @@ fn from_order(t: &[u32; 324], image: &mut [u8], lists: Table, allowed: u64) -> W
 }
 
 // Stage 2, `count` rounds of it, then the scan and stage 1 again.
-fn from_finish(
-    t: &[u32; 324],
-    image: &mut [u8],
-    lists: Table,
-    count: usize,
-    allowed: u64,
-) -> Went
+fn from_finish(t: &[u32; 324], image: &mut [u8], lists: Table, count: usize, allowed: u64) -> Went
     requires { ⌜ (now t ≡ crcTable) × Sized lists × Placed (sectorsOf (now image)) (listed lists) (freed lists) × (count ≡ freeings (listed lists)) × (greatest sequence (listed lists) + count ≤ 0xFFFF_FFFE) × (length (now image) ≡ sectorsOf (now image) * 4096) × (sectorsOf (now image) ≤ 16) ⌝ }
     ensures { λ r. ⌜ Made (fromFinish (listed lists) (freed lists) (now (image .entry))) allowed (now (image .entry)) (now (image .exit)) r ⌝ }
 {

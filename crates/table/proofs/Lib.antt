@@ -8,3 +8,4 @@ pub mod Seeking
 pub mod Places
 pub mod Held
 pub mod Scanned
+pub mod Whole

@@ -8,7 +8,7 @@ use Rattle.table.specs.Table.{wholeSectors, pages, frees}
 use Rattle.reclaim.specs.Reclaim.{plan, planSteps}
 use Rattle.reclaim.specs.Promise.{planAnswer}
 use Rattle.reclaim.proofs.Planned.{Named, named}
-use Rattle.reclaim.proofs.Made.{whole-is}
+use Rattle.table.proofs.Whole.{whole-is}
 use Rattle.reclaim.proofs.Promised.{refused-whole, promised-refusal, promised}
 use borrow.Author.Needs.{needs}
 use Rattle.reclaim.proofs.reclaim.Statement.{statement}

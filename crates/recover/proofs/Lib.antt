@@ -1,0 +1,5 @@
+pub mod Sequence
+pub mod Listed
+pub mod Promised
+pub mod Enter
+pub mod Fixed
