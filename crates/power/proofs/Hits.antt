@@ -3,7 +3,7 @@ use mathlib.Core.Path.{_≡_, refl}
 use mathlib.Core.Logic.{_⊎_, inl, inr, ⊎-elim}
 use mathlib.Core.Bool.{Bool, _&&_, cond, false, not, true}
 use mathlib.Core.Option.{Option, none, some}
-use mathlib.Core.List.{List, [], _++_, _∷_, dropLast, flatMap}
+use mathlib.Core.List.{List, [], _++_, _∷_, dropLast, flatMap, getLast?}
 use Prim.Native.Nat.{_*_, _+_, _-_, _/_, _≤_, suc, zero, ℕ}
 use native.Mathlib.Nat.{add-zero}
 use native.Mathlib.Omega.{arith}
@@ -12,9 +12,10 @@ use Rattle.entry.specs.Fields.{spanOf}
 use Rattle.flash.specs.Step.{Step}
 use Rattle.item.specs.States.{stateWord, statesDown, unmarking}
 use Rattle.item.specs.Erase.{erasing}
-use Rattle.lists.specs.Lists.{best, insertBy, sortBy}
+use Rattle.lists.specs.Lists.{sortBy}
 use Rattle.lists.proofs.Search.{best-in, keep-in}
 use Rattle.lists.proofs.Out.{dropLast-in}
+use Rattle.lists.proofs.Sorting.{sort-in}
 use Rattle.lists.proofs.Maps.{flatMap-in}
 use Rattle.lists.proofs.Member.{_∈_, in-left, in-right}
 use Rattle.found.specs.Found.{Found, chunkOf, chunks, eraseAll, indexOf, isIndex, newer, startIn, versionOf}
@@ -122,23 +123,6 @@ module _ (fs : List Found) (sp : Spanned fs) where
   blobs-hit = append-hit _ _ (flatMap-hit (judge fs) judge-hit _) (flatMap-hit (older fs) older-hit _)
 
   -- stage 4
-  insert-in : (x : Found) (ys : List Found) (z : Found) → z ∈ insertBy olderThan x ys → (z ≡ x) ⊎ (z ∈ ys)
-  unfolding insertBy
-  insert-in x [] z (inl e) = inl e
-  insert-in x [] z (inr m) = absurd m
-  insert-in x (y ∷ ys) z m = go (olderThan y x) m (insert-in x ys z)
-    where
-      go : (b : Bool) → z ∈ cond b (y ∷ insertBy olderThan x ys) (x ∷ (y ∷ ys)) → (z ∈ insertBy olderThan x ys → (z ≡ x) ⊎ (z ∈ ys)) → (z ≡ x) ⊎ (z ∈ (y ∷ ys))
-      go true (inl e) ih = inr (inl e)
-      go true (inr k) ih = ⊎-elim (λ w. inl w) (λ w. inr (inr w)) (ih k)
-      go false (inl e) ih = inl e
-      go false (inr k) ih = inr k
-
-  sort-in : (xs : List Found) (z : Found) → z ∈ sortBy olderThan xs → z ∈ xs
-  unfolding sortBy
-  sort-in [] z m = absurd m
-  sort-in (x ∷ xs) z m = ⊎-elim (λ e. inl e) (λ k. inr (sort-in xs z k)) (insert-in x (sortBy olderThan xs) z m)
-
   with-in : (o : Option Found) (x z : Found) → x ∈ fs → z ∈ withChunks fs o x → z ∈ fs
   unfolding withChunks
   with-in none x z m (inl e) = rw e m
@@ -153,9 +137,9 @@ module _ (fs : List Found) (sp : Spanned fs) where
   outdated-in : (g : ℕ) (z : Found) → z ∈ outdated fs g → z ∈ fs
   unfolding outdated
   outdated-in g z m =
-      let r = flatMap-in (withChunks fs (best newer (members g fs))) (dropLast (sortBy olderThan (members g fs))) z m in
-      with-in (best newer (members g fs)) (r .0) z
-      (keep-in _ fs (r .0) (sort-in (members g fs) (r .0) (dropLast-in (sortBy olderThan (members g fs)) (r .0) (r .1))) .0) (r .2)
+      let r = flatMap-in (withChunks fs (getLast? (sortBy olderThan (members g fs)))) (dropLast (sortBy olderThan (members g fs))) z m in
+      with-in (getLast? (sortBy olderThan (members g fs))) (r .0) z
+      (keep-in _ fs (r .0) (sort-in olderThan (members g fs) (r .0) (dropLast-in (sortBy olderThan (members g fs)) (r .0) (r .1))) .0) (r .2)
 
   once-in : (xs : List Found) (z : Found) → z ∈ onceEach xs → z ∈ xs
   unfolding onceEach

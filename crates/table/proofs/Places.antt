@@ -62,7 +62,7 @@ module _ {A : Type 0} where
   length-sum (x ∷ xs) = let q = length-sum xs in omega arith
 
   -- where one passes at most, all that pass are the same
-  only : (p : A → Bool) (xs : List A) (x y : A) → sumOf (λ (z : A). one (p z)) xs ≤ 1 → x ∈ xs → p x ≡ true → y ∈ xs → p y ≡ true → y ≡ x
+  pub only : (p : A → Bool) (xs : List A) (x y : A) → sumOf (λ (z : A). one (p z)) xs ≤ 1 → x ∈ xs → p x ≡ true → y ∈ xs → p y ≡ true → y ≡ x
   unfolding sumOf
   only p [] x y h m e n f = absurd m
   only p (z ∷ zs) x y h (inl r) e (inl q) f = q ∙ sym r
@@ -78,7 +78,7 @@ module _ {A : Type 0} where
       absurd (omega arith)
   only p (z ∷ zs) x y h (inr m) e (inr n) f = only p zs x y (omega arith) m e n f
 
-one-le : (b : Bool) → one b ≤ 1
+pub one-le : (b : Bool) → one b ≤ 1
 one-le true = omega arith
 one-le false = omega arith
 
