@@ -23,7 +23,7 @@ use Rattle.lists.proofs.Ascending.{ascend-from}
 use Rattle.found.specs.Found.{Found, isChunk, isIndex, startIn, versionOf, groupOf, chunkOf, chunks, eraseAll}
 use Rattle.duplicates.specs.Duplicates.{ranked, members, olderThan, withChunks, outdated, samePlace, onceEach, groups, duplicateSteps}
 use Rattle.duplicates.specs.Turns.{indexFrom, takesChunks, oldOne, oldOnce, oldWith, oldOf, groupSteps}
-use Rattle.duplicates.proofs.Once.{fresh, fresh-none, fresh-item, fresh-append, once-append, once-in, Once, once-fewer, same-self, once-other, once-only, once-same}
+use Rattle.duplicates.proofs.Once.{fresh, fresh-none, fresh-end, fresh-item, once-alone, fresh-append, once-append, once-in, Once, once-fewer, same-self, once-other, once-only, once-same}
 use Rattle.duplicates.proofs.Versions.{version-tells, version-of}
 use Rattle.duplicates.proofs.Taking.{erase-append}
 
@@ -113,6 +113,7 @@ module _ (fs : List Found) (apart : Apart fs) where
 
       -- an index of the same start before it took them
       chunks-gone : takes x ≡ true → earlier ≡ true → fresh (went before) own ≡ []
+      unfolding withChunks
       chunks-gone e s =
           keep-none (λ (y : Found). not (some-of (λ (z : Found). samePlace z y) (went before))) own (λ c n.
           ap not (some-is (λ (z : Found). samePlace z c) (went before) c (in-flatMap (withChunks fs (some k)) before b c (r .1) (with-it c n)) (same-self c)))
@@ -135,7 +136,6 @@ module _ (fs : List Found) (apart : Apart fs) where
               ∙ ap (λ (n : ℕ). not (indexFrom n (k .raw))) start ∙ both-second (isIndex (x .raw)) _ e
 
           with-it : (c : Found) → c ∈ own → c ∈ withChunks fs (some k) b
-          unfolding withChunks
           with-it c n = inr (rw (both, version) n)
 
       -- no index before it is of its version
@@ -167,16 +167,8 @@ module _ (fs : List Found) (apart : Apart fs) where
       unfolding withChunks oldOne takesChunks
       one-turn h = go (takes x) refl earlier refl
         where
-          alone : onceEach (x ∷ []) ≡ x ∷ []
-          unfolding onceEach keep
-          alone = refl
-
-          nothing : fresh (went before) [] ≡ []
-          unfolding keep
-          nothing = refl
-
           go : (t : Bool) → takes x ≡ t → (s : Bool) → earlier ≡ s → fresh (went before) (onceEach (x ∷ cond t own [])) ≡ x ∷ cond (t && not s) own []
-          go false e s f = ap (fresh (went before)) alone ∙ fresh-item (went before) x [] (item-fresh h) ∙ ap {B = List Found} (λ (ys : List Found). x ∷ ys) nothing
+          go false e s f = ap (fresh (went before)) (once-alone x) ∙ fresh-item (went before) x [] (item-fresh h) ∙ ap {B = List Found} (λ (ys : List Found). x ∷ ys) (fresh-end (went before))
           go true e true f = ap (fresh (went before)) own-once ∙ fresh-item (went before) x own (item-fresh h) ∙ ap {B = List Found} (λ (ys : List Found). x ∷ ys) (chunks-gone e f)
           go true e false f = ap (fresh (went before)) own-once ∙ fresh-item (went before) x own (item-fresh h) ∙ ap {B = List Found} (λ (ys : List Found). x ∷ ys) (chunks-kept e f)
 

@@ -25,6 +25,10 @@ pub fresh-none : (ys : List Found) → fresh [] ys ≡ ys
 unfolding some-of
 fresh-none ys = keep-all (λ (y : Found). true) ys (λ y m. refl)
 
+pub fresh-end : (seen : List Found) → fresh seen [] ≡ []
+unfolding keep
+fresh-end seen = refl
+
 pub fresh-item : (seen : List Found) (y : Found) (ys : List Found) → some-of (λ (x : Found). samePlace x y) seen ≡ false → fresh seen (y ∷ ys) ≡ y ∷ fresh seen ys
 unfolding keep
 fresh-item seen y ys e = rw e
@@ -56,6 +60,10 @@ once-append (x ∷ a) b =
     ∙ keep-append (λ (y : Found). not (samePlace x y)) (onceEach a) (fresh a (onceEach b))
     ∙ ap (λ (ys : List Found). keep (λ (y : Found). not (samePlace x y)) (onceEach a) ++ ys) (fresh-more x a (onceEach b))
     )
+
+pub once-alone : (x : Found) → onceEach (x ∷ []) ≡ x ∷ []
+unfolding onceEach keep
+once-alone x = refl
 
 pub once-in : (xs : List Found) (z : Found) → z ∈ onceEach xs → z ∈ xs
 unfolding onceEach
