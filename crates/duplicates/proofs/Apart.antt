@@ -1,12 +1,12 @@
 -- The items found on the listed pages stand at different places: each sector stands in the list once, and the walk goes on. Assumes nothing.
-use mathlib.Core.Path.{_≡_, refl, sym, ap, _∙_}
+use mathlib.Core.Path.{_≡_, refl}
 use mathlib.Core.Bool.{Bool, true, false, cond, _&&_}
-use mathlib.Core.List.{List, [], _∷_, map, flatMap}
-use Prim.Native.Nat.{ℕ, zero, suc, _+_, _*_, _^_, _<_, _≤_}
+use mathlib.Core.List.{List, _∷_, map}
+use Prim.Native.Nat.{ℕ, zero, suc, _+_, _^_, _<_, _≤_}
 use native.Mathlib.Omega.{arith}
 use lib.Dec.{eqb, leb, ltb}
 use lib.ListN.{getD}
-use borrow.Author.Tests.{eqb-true, leb-true, le-leb, lt-leb}
+use borrow.Author.Tests.{eqb-true, leb-true, le-leb}
 use Rattle.entry.specs.States.{one}
 use Rattle.entry.specs.Fields.{keyOf, keyNumber}
 use Rattle.flash.specs.Step.{sector}
@@ -21,7 +21,7 @@ use Rattle.table.specs.Table.{itemsIn, inSector}
 use Rattle.table.specs.Placed.{timesIn, Placed}
 use Rattle.table.proofs.Places.{one-le}
 use Rattle.found.specs.Found.{Found, found, foundOn}
-use Rattle.found.specs.Places.{placeOf, itemAt, itemsAt, Each, Lies}
+use Rattle.found.specs.Places.{placeOf, itemAt, Each, Lies}
 use Rattle.found.proofs.Finding.{foundAs, items-found}
 use Rattle.found.proofs.Keys.{item-key}
 use Rattle.duplicates.specs.Duplicates.{samePlace}

@@ -5,14 +5,14 @@ use mathlib.Core.Logic.{_⊎_, inl, inr, ⊎-elim}
 use mathlib.Core.Bool.{Bool, true, false, cond, not, _&&_}
 use mathlib.Core.Option.{Option, none, some}
 use mathlib.Core.List.{List, [], _∷_, _++_, append-assoc, append-nil, getLast?, dropLast, flatMap}
-use Prim.Native.Nat.{ℕ, zero, suc, _^_, _<_, _≤_}
+use Prim.Native.Nat.{ℕ, zero, suc, _^_, _<_}
 use native.Mathlib.Omega.{arith}
 use lib.Dec.{eqb, leb}
 use borrow.Author.Tests.{not-true, eqb-true, eq-eqb}
 use Rattle.entry.specs.Fields.{namespaceOf, keyOf, keyNumber}
 use Rattle.page.proofs.Tests.{both-first, both-second}
 use Rattle.flash.specs.Step.{Step}
-use Rattle.lists.specs.Lists.{keep, some-of, sumOf, sortBy, leastFrom, ascendTo, ascendFrom, ascending}
+use Rattle.lists.specs.Lists.{keep, some-of, sortBy, leastFrom, ascendTo, ascendFrom, ascending}
 use Rattle.lists.proofs.Member.{_∈_, true≢false, none≢some, in-left, in-right}
 use Rattle.lists.proofs.Search.{keep-in, keep-all, keep-none, keep-append, some-is, some-in, some-none}
 use Rattle.lists.proofs.Sums.{sum-keep-le}
@@ -39,10 +39,10 @@ pub record Member (fs : List Found) (g : ℕ) (x : Found) : Type 0 where
   pub group : groupOf (x .raw) ≡ g
 
 -- a chunk of version v
-record Part (fs : List Found) (v : ℕ) (c : Found) : Type 0 where
-  here : c ∈ fs
-  chunk : isChunk (c .raw) ≡ true
-  version : versionOf (c .raw) ≡ v
+pub record Part (fs : List Found) (v : ℕ) (c : Found) : Type 0 where
+  pub here : c ∈ fs
+  pub chunk : isChunk (c .raw) ≡ true
+  pub version : versionOf (c .raw) ≡ v
 
 part-of : (fs : List Found) (v : ℕ) (c : Found) → c ∈ chunks v fs → Part fs v c
 part-of fs v c m =
@@ -58,20 +58,20 @@ member-of fs g x m =
       group = eqb-true (groupOf (x .raw)) g (both-second (ranked (x .raw)) (eqb (groupOf (x .raw)) g) (k .1));
     }
 
-module _ (fs : List Found) (apart : Apart fs) where
-  -- what goes with an item: itself, and chunks of its version where it is an index
-  with-cases : (o : Option Found) (b z : Found) → z ∈ withChunks fs o b → (z ≡ b) ⊎ ((isIndex (b .raw) ≡ true) × Part fs (versionOf (b .raw)) z)
-  unfolding withChunks
-  with-cases none b z (inl e) = inl e
-  with-cases none b z (inr m) = absurd m
-  with-cases (some k) b z (inl e) = inl e
-  with-cases (some k) b z (inr m) = inr (go (isIndex (b .raw)) (not (isIndex (k .raw) && eqb (startIn (k .raw)) (startIn (b .raw)))) m)
-    where
-      go : (a t : Bool) → z ∈ cond (a && t) (chunks (versionOf (b .raw)) fs) [] → (a ≡ true) × Part fs (versionOf (b .raw)) z
-      go true true n = (refl, part-of fs (versionOf (b .raw)) z n)
-      go true false n = absurd n
-      go false t n = absurd n
+-- what goes with an item: itself, and chunks of its version where it is an index
+pub with-cases : (fs : List Found) (o : Option Found) (b z : Found) → z ∈ withChunks fs o b → (z ≡ b) ⊎ ((isIndex (b .raw) ≡ true) × Part fs (versionOf (b .raw)) z)
+unfolding withChunks
+with-cases fs none b z (inl e) = inl e
+with-cases fs none b z (inr m) = absurd m
+with-cases fs (some k) b z (inl e) = inl e
+with-cases fs (some k) b z (inr m) = inr (go (isIndex (b .raw)) (not (isIndex (k .raw) && eqb (startIn (k .raw)) (startIn (b .raw)))) m)
+  where
+    go : (a t : Bool) → z ∈ cond (a && t) (chunks (versionOf (b .raw)) fs) [] → (a ≡ true) × Part fs (versionOf (b .raw)) z
+    go true true n = (refl, part-of fs (versionOf (b .raw)) z n)
+    go true false n = absurd n
+    go false t n = absurd n
 
+module _ (fs : List Found) (apart : Apart fs) where
   -- a chunk stands where no other item stands
   kinds-apart : (y z : Found) → y ∈ fs → z ∈ fs → (isChunk (y .raw) ≡ isChunk (z .raw) → ⊥) → samePlace y z ≡ false
   kinds-apart y z m n h = go (samePlace y z) refl
@@ -100,7 +100,7 @@ module _ (fs : List Found) (apart : Apart fs) where
           some-none (λ (z : Found). samePlace z x) (went before) (λ z n.
           let r = flatMap-in (withChunks fs (some k)) before z n in
           ⊎-elim (λ e. ap (λ (y : Found). samePlace y x) e ∙ h (r .0) (r .1)) (λ p. kinds-apart z x (p .1 .here) (m .here) (λ q. true≢false (p .1 .chunk) (q ∙ m .whole)))
-          (with-cases (some k) (r .0) z (r .2)))
+          (with-cases fs (some k) (r .0) z (r .2)))
 
       -- the item and its chunks stand at different places
       own-once : onceEach (x ∷ own) ≡ x ∷ own
@@ -157,7 +157,7 @@ module _ (fs : List Found) (apart : Apart fs) where
           one-of : (c : Found) → Part fs (versionOf (x .raw)) c → (z : Found) → ((b : Found) × (b ∈ before) × (z ∈ withChunks fs (some k) b)) → samePlace z c ≡ false
           one-of c p z r =
               ⊎-elim (λ w. ap (λ (y : Found). samePlace y c) w ∙ kinds-apart (r .0) c (old (r .0) (r .1) .here) (p .here) (λ q. true≢false (p .chunk) (sym q ∙ old (r .0) (r .1) .whole))) (λ w. go (samePlace z c) refl w)
-              (with-cases (some k) (r .0) z (r .2))
+              (with-cases fs (some k) (r .0) z (r .2))
             where
               go : (t : Bool) → samePlace z c ≡ t → (isIndex (r .0 .raw) ≡ true) × Part fs (versionOf (r .0 .raw)) z → samePlace z c ≡ false
               go true f w = absurd (clash c p (r .0) z (r .1) (w .0) (w .1) f)
@@ -218,7 +218,7 @@ module _ (fs : List Found) (apart : Apart fs) where
   unfolding outdated
   outdated-of g z m =
       ⊎-elim (λ e. (rw e (b .here), ap (λ (y : Found). groupOf (y .raw)) e ∙ b .group)) (λ p. (p .1 .here, version-tells (z .raw) (r .0 .raw) (apart .keys z (p .1 .here)) (apart .keys (r .0) (b .here)) (p .1 .version) .0 ∙ b .group))
-      (with-cases (getLast? s) (r .0) z (r .2))
+      (with-cases fs (getLast? s) (r .0) z (r .2))
     where
       s : List Found
       s = sortBy olderThan (members g fs)

@@ -1,14 +1,14 @@
 -- The last marks of stage 4, page by page: a mark changes no entry state, so each page is judged as when the marks began. Assumes nothing.
 use mathlib.Core.Path.{_≡_, refl, sym, ap, _∙_}
 use mathlib.Core.Logic.{_⊎_, inl, inr, ⊎-elim}
-use mathlib.Core.Bool.{Bool, true, false, _&&_}
+use mathlib.Core.Bool.{true, false}
 use mathlib.Core.List.{List, [], _∷_}
-use Prim.Native.Nat.{ℕ, _+_, _*_, _/_, _%_, _^_, _<_, _≤_}
+use Prim.Native.Nat.{ℕ, _+_, _*_, _/_, _%_, _^_, _<_}
 use native.Mathlib.Omega.{arith}
 use lib.Dec.{eqb}
 use lib.ListN.{length, getD, take}
 use Rattle.word.proofs.Bytes.{part-byte}
-use Rattle.entry.specs.States.{empty, stateAt, countOf, countState}
+use Rattle.entry.specs.States.{empty, stateAt, countState}
 use Rattle.entry.proofs.Counting.{count-ext}
 use Rattle.flash.specs.declared.Ran.{Ran}
 use Rattle.flash.specs.Step.{sector}

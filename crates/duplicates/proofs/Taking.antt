@@ -1,8 +1,8 @@
 -- What goes with the old items of a group, one after the other. Assumes nothing.
-use mathlib.Core.Path.{_≡_, refl, sym, ap, ap₂, _∙_}
+use mathlib.Core.Path.{_≡_, refl, sym, ap, _∙_}
 use mathlib.Core.Bool.{Bool, true, false, cond, not, _&&_}
 use mathlib.Core.Option.{Option, some}
-use mathlib.Core.List.{List, [], _∷_, _++_, getLast?, dropLast, flatMap, map}
+use mathlib.Core.List.{List, [], _∷_, _++_, getLast?, dropLast, flatMap}
 use Prim.Native.Nat.{ℕ, suc, _+_, _-_, _<_, _≤_}
 use native.Mathlib.Omega.{arith}
 use lib.ListN.{length, getD, take, drop, length-drop}
@@ -42,10 +42,6 @@ module _ (before : List Found) (k x : Found) where
 
 -- ---- the steps of one old item
 module _ (fs : List Found) (k : Found) (before : List Found) (x : Found) where
-  -- its chunks
-  abbrev pub withIt : List Step
-  withIt = eraseAll (cond (takesChunks before k x) (chunks (versionOf (x .raw)) fs) [])
-
   pub one-steps : eraseAll (oldOne fs k before x) ≡ erasing (x .sector) (x .entry) (spanOf (x .raw)) ++ eraseAll (cond (takesChunks before k x) (chunks (versionOf (x .raw)) fs) [])
   unfolding oldOne eraseAll flatMap
   one-steps = refl

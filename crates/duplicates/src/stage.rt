@@ -21,13 +21,7 @@ ghost use Rattle.found.specs.Ranks.{rankNumber};
 ghost use Rattle.duplicates.specs.Duplicates.{groups, lastMarks, duplicateStage};
 ghost use Rattle.duplicates.specs.Turns.{groupSteps};
 
-fn take_group(
-    image: &mut [u8],
-    places: &[u16],
-    sorted: &mut [u16],
-    g: Rank,
-    allowed: u64,
-) -> Ran
+fn take_group(image: &mut [u8], places: &[u16], sorted: &mut [u16], g: Rank, allowed: u64) -> Ran
     requires { ⌜ Each (Placed (now image)) (now places) × (length (now places) ≤ length (now sorted)) ⌝ }
     ensures { λ r. ⌜ Did (groupSteps (itemsAt (now (image .entry)) (now (places .entry))) (rankNumber g)) allowed (now (image .entry)) (now (image .exit)) r × Alike (now (image .entry)) (now (image .exit)) ⌝ }
 {

@@ -7,7 +7,6 @@ use Prim.Native.Nat.{_*_, _+_, _-_, _<_, _^_, _≤_, suc, zero, ℕ}
 use native.Mathlib.Omega.{arith}
 use lib.ListN.{drop, getD, length, length-drop, length-take, take}
 use lib.Seq.{take-nil, take-take}
-use Rattle.word.specs.Number.{part}
 use Rattle.entry.specs.Fields.{entryAt, spanOf}
 use Rattle.page.specs.declared.state.PageState.the-variants.{Active}
 use Rattle.page.specs.State.{isFree, sequenceOf, stateOf}

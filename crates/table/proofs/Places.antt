@@ -11,9 +11,9 @@ use lib.ListN.{length, take, getD, length-append}
 use borrow.Author.Tests.{eq-eqb, ltb-true}
 use Rattle.entry.specs.States.{one}
 use Rattle.lists.specs.Lists.{sumOf, greatest, replace, outWith, takeOut}
-use Rattle.lists.proofs.Member.{_∈_, none≢some}
+use Rattle.lists.proofs.Member.{_∈_}
 use Rattle.lists.proofs.Sums.{sum-ge, sum-append, greatest-ge, greatest-lt}
-use Rattle.lists.proofs.Out.{sum-out, out-in}
+use Rattle.lists.proofs.Out.{sum-dropLast, sum-out, out-in}
 use Rattle.table.specs.declared.Page.{Page}
 use Rattle.table.specs.Table.{inSector, sectorsOf, sequence}
 use Rattle.table.specs.Placed.{timesIn, Placed}
@@ -28,12 +28,6 @@ in-front (x ∷ xs) (suc k) (suc i) d r h = inr (in-front xs k i d (omega arith)
 
 -- one that is taken out leaves no more of the others
 module _ {A : Type 0} where
-  sum-front : (f : A → ℕ) (xs : List A) (z : A) → getLast? xs ≡ some z → sumOf f (dropLast xs) + f z ≡ sumOf f xs
-  unfolding sumOf
-  sum-front f [] z e = absurd (none≢some refl e)
-  sum-front f (x ∷ []) z e = let r : x ≡ z = cc in let q : f x ≡ f z = ap f r in omega arith
-  sum-front f (x ∷ (w ∷ ws)) z e = let q = sum-front f (w ∷ ws) z e in omega arith
-
   sum-replace-le : (f : A → ℕ) (p : A → Bool) (z : A) (ys : List A) → sumOf f (replace p z ys) ≤ sumOf f ys + f z
   unfolding sumOf replace
   sum-replace-le f p z [] = omega arith
@@ -48,8 +42,8 @@ module _ {A : Type 0} where
   sum-out-le f p xs = go (getLast? xs) refl
     where
       pin : (z : A) → getLast? xs ≡ some z → (b : Bool) → sumOf f (cond b (dropLast xs) (replace p z (dropLast xs))) ≤ sumOf f xs
-      pin z q true = let s = sum-front f xs z q in omega arith
-      pin z q false = let s = sum-front f xs z q in let t = sum-replace-le f p z (dropLast xs) in omega arith
+      pin z q true = let s = sum-dropLast f xs z q in omega arith
+      pin z q false = let s = sum-dropLast f xs z q in let t = sum-replace-le f p z (dropLast xs) in omega arith
 
       go : (o : Option A) → getLast? xs ≡ o → sumOf f (outWith p xs o) ≤ sumOf f xs
       go none q = omega arith

@@ -1,14 +1,11 @@
 -- `duplicates::erase_old` meets its contract: the item, then its chunks, which stand where they stood. Assumes nothing.
-use mathlib.Core.Path.{_≡_, sym, ap, _∙_}
-use mathlib.Core.Bool.{true, false}
-use mathlib.Core.List.{List}
-use Prim.Native.Nat.{ℕ, _-_}
+use mathlib.Core.Path.{_≡_, sym, _∙_}
+use Prim.Native.Nat.{_-_}
 use native.Mathlib.Omega.{arith}
 use lib.ListN.{length, take, getD}
 use lib.Seq.{length-take-le}
 use borrow.Author.Needs.{needs}
 use Rattle.flash.proofs.Laws.{goes-start, goes-on, goes-stop, goes-same, goes-end, goes-last}
-use Rattle.found.specs.Found.{Found}
 use Rattle.found.specs.Places.{itemAt, itemsAt, Placed}
 use Rattle.found.proofs.Alike.{alike-trans, placed-alike, item-alike, each-alike, items-alike}
 use Rattle.found.proofs.Each.{each-at, each-take}

@@ -1,11 +1,11 @@
 -- `duplicates::takes_chunks` meets its contract: each test that led to a return decides the definition's. Assumes nothing.
-use mathlib.Core.Path.{_≡_, sym, ap, _∙_}
-use mathlib.Core.Bool.{true, false, not}
+use mathlib.Core.Path.{sym, ap, _∙_}
+use mathlib.Core.Bool.{not}
 use Prim.Native.Nat.{ℕ}
 use borrow.Author.Tests.{not-true, not-false}
 use borrow.Author.Needs.{needs}
 use Rattle.lists.specs.Lists.{some-of}
-use Rattle.found.specs.Found.{Found, startIn}
+use Rattle.found.specs.Found.{Found}
 use Rattle.found.specs.Places.{itemAt, itemsAt}
 use Rattle.duplicates.specs.Turns.{indexFrom}
 use Rattle.duplicates.proofs.Taking.{takes-none, takes-kept, takes-else}

@@ -2,10 +2,9 @@
 -- Assumes nothing.
 use mathlib.Core.Path.{_≡_, refl, sym, ap, _∙_}
 use mathlib.Core.List.{List, flatMap}
-use Prim.Native.Nat.{ℕ}
 use lib.ListN.{length}
 use borrow.Author.Needs.{needs}
-use Rattle.flash.specs.Did.{Did, Goes}
+use Rattle.flash.specs.Did.{Goes}
 use Rattle.flash.proofs.Laws.{goes-start, goes-on, goes-stop, goes-end}
 use Rattle.lists.specs.Lists.{leastFrom, ascendFrom, ascending}
 use Rattle.found.specs.declared.ranks.Pass.the-variants.{Items}
