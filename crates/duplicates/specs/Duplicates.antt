@@ -2,14 +2,14 @@
 -- newest are erased, oldest first." It judges by the items fs found as it begins. Assumes nothing.
 use mathlib.Core.Bool.{Bool, true, false, cond, not, _&&_}
 use mathlib.Core.Option.{Option, none, some}
-use mathlib.Core.List.{List, [], _∷_, _++_, map, flatMap, dropLast}
+use mathlib.Core.List.{List, [], _∷_, _++_, map, flatMap, getLast?, dropLast}
 use Prim.Native.Nat.{ℕ}
 use lib.Dec.{eqb, leb}
 use Rattle.entry.specs.States.{empty, countState}
 use Rattle.entry.specs.Fields.{namespaceOf}
 use Rattle.flash.specs.Step.{Step, run, sector}
 use Rattle.item.specs.Mark.{markFull}
-use Rattle.lists.specs.Lists.{keep, best, sortBy, ascending}
+use Rattle.lists.specs.Lists.{keep, sortBy, ascending}
 use Rattle.table.specs.declared.Page.{Page}
 use Rattle.table.specs.Table.{activePage}
 use Rattle.found.specs.Found.{Found, found, newer, isChunk, isIndex, startIn, versionOf, groupOf, chunks, eraseAll}
@@ -31,9 +31,9 @@ withChunks fs none x = x ∷ []
 withChunks fs (some k) x =
     x ∷ cond (isIndex (x .raw) && not (isIndex (k .raw) && eqb (startIn (k .raw)) (startIn (x .raw)))) (chunks (versionOf (x .raw)) fs) []
 
--- "all but the newest are erased, oldest first"
+-- "all but the newest are erased, oldest first": the newest is the last of them
 unfoldable pub outdated : List Found → ℕ → List Found
-outdated fs g = flatMap (withChunks fs (best newer (members g fs))) (dropLast (sortBy olderThan (members g fs)))
+outdated fs g = let s = sortBy olderThan (members g fs) in flatMap (withChunks fs (getLast? s)) (dropLast s)
 
 -- "no item is erased twice in a stage"
 abbrev pub samePlace : Found → Found → Bool

@@ -1,1 +1,2 @@
 pub mod Duplicates
+pub mod Turns

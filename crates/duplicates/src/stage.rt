@@ -6,20 +6,34 @@ use found::Next;
 use found::Pass;
 use found::Rank;
 use table::Table;
+ghost use mathlib.Core.Path.{_≡_};
+ghost use mathlib.Core.List.{map, flatMap};
+ghost use Prim.Native.Nat.{_+_, _*_, _≤_};
+ghost use lib.ListN.{length};
+ghost use Rattle.entry.specs.States.{empty, countState};
+ghost use Rattle.flash.specs.Step.{sector as sectorIn};
+ghost use Rattle.flash.specs.Did.{Did};
+ghost use Rattle.table.specs.Table.{sectorsOf, listed, freed, Sized};
+ghost use Rattle.table.specs.Placed.{Placed as PagesPlaced};
+ghost use Rattle.found.specs.Found.{found};
+ghost use Rattle.found.specs.Places.{placeOf, itemsAt, Each, Lies, Placed, Alike};
+ghost use Rattle.found.specs.Ranks.{rankNumber};
+ghost use Rattle.duplicates.specs.Duplicates.{groups, lastMarks, duplicateStage};
+ghost use Rattle.duplicates.specs.Turns.{groupSteps};
 
-fn take_group(
-    image: &mut [u8],
-    places: &[u16],
-    sorted: &mut [u16],
-    g: Rank,
-    allowed: u64,
-) -> Ran {
+fn take_group(image: &mut [u8], places: &[u16], sorted: &mut [u16], g: Rank, allowed: u64) -> Ran
+    requires { ⌜ Each (Placed (now image)) (now places) × (length (now places) ≤ length (now sorted)) ⌝ }
+    ensures { λ r. ⌜ Did (groupSteps (itemsAt (now (image .entry)) (now (places .entry))) (rankNumber g)) allowed (now (image .entry)) (now (image .exit)) r × Alike (now (image .entry)) (now (image .exit)) ⌝ }
+{
     let n = sort_group(image, places, g, sorted);
     erase_all_old(image, places, &sorted[..n], allowed)
 }
 
 // "Repeated search for the next key": each group, ascending.
-fn make_duplicates(image: &mut [u8], places: &[u16], sorted: &mut [u16], allowed: u64) -> Ran {
+fn make_duplicates(image: &mut [u8], places: &[u16], sorted: &mut [u16], allowed: u64) -> Ran
+    requires { ⌜ Each (Placed (now image)) (now places) × (length (now places) ≤ length (now sorted)) ⌝ }
+    ensures { λ r. ⌜ Did (flatMap (groupSteps (itemsAt (now (image .entry)) (now (places .entry)))) (groups (itemsAt (now (image .entry)) (now (places .entry))))) allowed (now (image .entry)) (now (image .exit)) r × Alike (now (image .entry)) (now (image .exit)) ⌝ }
+{
     let mut left = allowed;
     let mut last = Next::Nothing;
     loop {
@@ -36,7 +50,10 @@ fn make_duplicates(image: &mut [u8], places: &[u16], sorted: &mut [u16], allowed
 }
 
 // How many Empty entries the page in `sector` has as the image stands.
-fn empty_in(image: &[u8], sector: usize) -> u32 {
+fn empty_in(image: &[u8], sector: usize) -> u32
+    requires { ⌜ sector * 4096 + 4096 ≤ length (now image) ⌝ }
+    ensures { λ r. ⌜ r ≡ countState (sectorIn sector (now (image .entry))) empty ⌝ }
+{
     let a = sector * 4096;
     let e = a + 4096;
     let totals = entry::totals_of(&image[a..e]);
@@ -44,7 +61,10 @@ fn empty_in(image: &[u8], sector: usize) -> u32 {
 }
 
 // An Active page that now has no Empty entry is marked Full.
-fn make_last_marks(image: &mut [u8], table: Table, allowed: u64) -> Ran {
+fn make_last_marks(image: &mut [u8], table: Table, allowed: u64) -> Ran
+    requires { ⌜ Sized table × PagesPlaced (sectorsOf (now image)) (listed table) (freed table) ⌝ }
+    ensures { λ r. ⌜ Did (lastMarks (listed table) (now (image .entry))) allowed (now (image .entry)) (now (image .exit)) r ⌝ }
+{
     let count = table.count;
     let mut left = allowed;
     let mut i: usize = 0;
@@ -77,7 +97,10 @@ pub fn duplicate_stage(
     places: &[u16],
     sorted: &mut [u16],
     allowed: u64,
-) -> Ran {
+) -> Ran
+    requires { ⌜ Sized table × PagesPlaced (sectorsOf (now image)) (listed table) (freed table) × Each (Lies (now image)) (listed table) × (now places ≡ map placeOf (found (listed table) (now image))) × (length (now places) ≤ length (now sorted)) ⌝ }
+    ensures { λ r. ⌜ Did (duplicateStage (listed table) (now (image .entry))) allowed (now (image .entry)) (now (image .exit)) r ⌝ }
+{
     let r = make_duplicates(image, places, sorted, allowed);
     let Ran::Done(left) = r else {
         return Ran::Stopped;

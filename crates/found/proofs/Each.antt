@@ -4,7 +4,7 @@ use mathlib.Core.Logic.{inl, inr}
 use mathlib.Core.List.{List, [], _∷_, _++_}
 use Prim.Native.Nat.{ℕ, zero, suc, _<_, _≤_}
 use native.Mathlib.Omega.{arith}
-use lib.ListN.{length, getD, take}
+use lib.ListN.{length, getD, take, drop}
 use lib.Seq.{getD-take, length-take-le}
 use Rattle.lists.proofs.Member.{_∈_}
 use Rattle.found.specs.Places.{Each}
@@ -32,6 +32,19 @@ module _ {A : Type 0} (P : A → Type 0) where
   unfolding Each
   each-append [] ys p q = q
   each-append (x ∷ xs) ys p q = (p .0, each-append xs ys (p .1) q)
+
+  -- a front of the list, and the list with one more put into it
+  pub each-take : (k : ℕ) (xs : List A) → Each P xs → Each P (take k xs)
+  unfolding Each
+  each-take zero xs h = tt
+  each-take (suc k) [] h = tt
+  each-take (suc k) (x ∷ xs) h = (h .0, each-take k xs (h .1))
+
+  pub each-insert : (i : ℕ) (xs : List A) (x : A) → P x → Each P xs → Each P (take i xs ++ (x ∷ drop i xs))
+  unfolding Each
+  each-insert zero xs x p h = (p, h)
+  each-insert (suc i) [] x p h = (p, h)
+  each-insert (suc i) (y ∷ xs) x p h = (h .0, each-insert i xs x p (h .1))
 
   -- the front of an array
   pub each-front : (xs : List A) (k : ℕ) (d : A) → k ≤ length xs → Each P (take k xs) → (i : ℕ) → i < k → P (getD xs i d)

@@ -6,3 +6,4 @@ pub mod Ranking
 pub mod Searching
 pub mod Erasing
 pub mod Lying
+pub mod Keys

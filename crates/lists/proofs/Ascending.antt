@@ -74,6 +74,17 @@ ascend-in (suc n) v cs c m = go (leastFrom v cs) refl m (λ w. ascend-in n (suc 
     go (some w) q (inl r) ih = rw r (least-some v cs w q .0)
     go (some w) q (inr k) ih = ih w k
 
+-- and none of them is below v
+pub ascend-from : (n v : ℕ) (cs : List ℕ) (c : ℕ) → c ∈ ascendFrom n v cs → v ≤ c
+unfolding ascendFrom ascendTo
+ascend-from zero v cs c m = absurd m
+ascend-from (suc n) v cs c m = go (leastFrom v cs) refl m (λ w. ascend-from n (suc w) cs c)
+  where
+    go : (o : Option ℕ) → leastFrom v cs ≡ o → c ∈ ascendTo (λ (w : ℕ). ascendFrom n (suc w) cs) o → ((w : ℕ) → c ∈ ascendFrom n (suc w) cs → suc w ≤ c) → v ≤ c
+    go none q k ih = absurd k
+    go (some w) q (inl r) ih = let h = least-some v cs w q .1 in omega arith
+    go (some w) q (inr k) ih = let h = least-some v cs w q .1 in let a = ih w k in omega arith
+
 -- fewer pass a sharper test that a member fails
 sum-less : (f g : ℕ → ℕ) (cs : List ℕ) (w : ℕ) → ((c : ℕ) → f c ≤ g c) → w ∈ cs → f w < g w → sumOf f cs < sumOf g cs
 unfolding sumOf

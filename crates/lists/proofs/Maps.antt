@@ -1,7 +1,7 @@
--- What is made of each member: sums and members of `map` and `flatMap`. Assumes nothing.
-use mathlib.Core.Path.{_≡_, refl, ap, _∙_}
+-- What is made of each member: sums, members and parts of `map` and `flatMap`. Assumes nothing.
+use mathlib.Core.Path.{_≡_, refl, sym, ap, ap₂, _∙_}
 use mathlib.Core.Logic.{inl, inr, ⊎-elim}
-use mathlib.Core.List.{List, [], _∷_, map, flatMap}
+use mathlib.Core.List.{List, [], _∷_, _++_, append-assoc, map, flatMap}
 use Prim.Native.Nat.{ℕ, _+_}
 use Rattle.lists.specs.Lists.{sumOf}
 use Rattle.lists.proofs.Member.{_∈_, nil-left, nil-right, in-left, in-right, in-append}
@@ -18,6 +18,17 @@ module _ {A B : Type 0} where
   unfolding sumOf
   sum-map f g [] = refl
   sum-map f g (x ∷ xs) = ap (λ (n : ℕ). f (g x) + n) (sum-map f g xs)
+
+  -- of lists put together
+  pub flatMap-append : (g : A → List B) (a b : List A) → flatMap g (a ++ b) ≡ flatMap g a ++ flatMap g b
+  unfolding flatMap
+  flatMap-append g [] b = refl
+  flatMap-append g (x ∷ a) b = ap (λ (r : List B). g x ++ r) (flatMap-append g a b) ∙ sym (append-assoc (g x) (flatMap g a) (flatMap g b))
+
+  pub flatMap-ext : (g h : A → List B) (xs : List A) → ((y : A) → y ∈ xs → g y ≡ h y) → flatMap g xs ≡ flatMap h xs
+  unfolding flatMap
+  flatMap-ext g h [] e = refl
+  flatMap-ext g h (x ∷ xs) e = ap₂ (λ (a b : List B). a ++ b) (e x (inl refl)) (flatMap-ext g h xs (λ y m. e y (inr m)))
 
   -- nothing is made where each makes nothing, and the other way
   pub flatMap-none : (g : A → List B) (xs : List A) → ((y : A) → y ∈ xs → g y ≡ []) → flatMap g xs ≡ []

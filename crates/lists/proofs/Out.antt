@@ -13,7 +13,7 @@ use Rattle.lists.proofs.Sums.{sum-ge}
 
 module _ {A : Type 0} where
   -- ---- the dropLast and the last
-  sum-dropLast : (f : A → ℕ) (xs : List A) (z : A) → getLast? xs ≡ some z → sumOf f (dropLast xs) + f z ≡ sumOf f xs
+  pub sum-dropLast : (f : A → ℕ) (xs : List A) (z : A) → getLast? xs ≡ some z → sumOf f (dropLast xs) + f z ≡ sumOf f xs
   unfolding sumOf
   sum-dropLast f [] z e = absurd (none≢some refl e)
   sum-dropLast f (x ∷ []) z e = let r : x ≡ z = cc in let q : f x ≡ f z = ap f r in omega arith

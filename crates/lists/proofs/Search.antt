@@ -42,7 +42,38 @@ module _ {A : Type 0} where
   in-keep p [] y m e = absurd m
   in-keep p (x ∷ xs) y m e = in-keep-step p x xs y e (λ n. in-keep p xs y n e) (p x) refl m
 
+  pub keep-all : (p : A → Bool) (xs : List A) → ((y : A) → y ∈ xs → p y ≡ true) → keep p xs ≡ xs
+  unfolding keep
+  keep-all p [] h = refl
+  keep-all p (x ∷ xs) h = rw (h x (inl refl)) (ap {B = List A} (λ (r : List A). x ∷ r) (keep-all p xs (λ y m. h y (inr m))))
+
+  pub keep-append : (p : A → Bool) (a b : List A) → keep p (a ++ b) ≡ keep p a ++ keep p b
+  unfolding keep
+  keep-append p [] b = refl
+  keep-append p (x ∷ a) b = go (p x) (keep-append p a b)
+    where
+      go : (t : Bool) → keep p (a ++ b) ≡ keep p a ++ keep p b → cond t (x ∷ keep p (a ++ b)) (keep p (a ++ b)) ≡ cond t (x ∷ keep p a) (keep p a) ++ keep p b
+      go true q = ap {B = List A} (λ (r : List A). x ∷ r) q
+      go false q = q
+
+  -- what passes one test after the other passes both
+  pub keep-both : (p q r : A → Bool) → ((y : A) → cond (q y) (p y) false ≡ r y) → (xs : List A) → keep p (keep q xs) ≡ keep r xs
+  unfolding keep
+  keep-both p q r h [] = refl
+  keep-both p q r h (x ∷ xs) = go (q x) refl (p x) refl (h x) (keep-both p q r h xs)
+    where
+      go : (a : Bool) → q x ≡ a → (b : Bool) → p x ≡ b → cond (q x) (p x) false ≡ r x → keep p (keep q xs) ≡ keep r xs
+          → keep p (cond (q x) (x ∷ keep q xs) (keep q xs)) ≡ cond (r x) (x ∷ keep r xs) (keep r xs)
+      go true e true f g ih = let k : r x ≡ true = sym g ∙ rw (e, f) in rw (e, f, k) (ap {B = List A} (λ (z : List A). x ∷ z) ih)
+      go true e false f g ih = let k : r x ≡ false = sym g ∙ rw (e, f) in rw (e, f, k) ih
+      go false e b f g ih = let k : r x ≡ false = sym g ∙ rw e in rw (e, k) ih
+
   -- ---- every, some
+  pub some-none : (p : A → Bool) (xs : List A) → ((y : A) → y ∈ xs → p y ≡ false) → some-of p xs ≡ false
+  unfolding some-of
+  some-none p [] h = refl
+  some-none p (x ∷ xs) h = rw (h x (inl refl)) (some-none p xs (λ y m. h y (inr m)))
+
   pub every-is : (p : A → Bool) (xs : List A) → ((y : A) → y ∈ xs → p y ≡ true) → every p xs ≡ true
   unfolding every
   every-is p [] h = refl

@@ -63,6 +63,17 @@ module _ {A : Type 0} where
   sum-le f g [] h = omega arith
   sum-le f g (x ∷ xs) h = let a = h x (inl refl) in let b = sum-le f g xs (λ y m. h y (inr m)) in omega arith
 
+  -- a part of the list has no more
+  pub sum-keep-le : (p : A → Bool) (f : A → ℕ) (xs : List A) → sumOf f (keep p xs) ≤ sumOf f xs
+  sum-keep-le p f xs =
+      let a = sum-keep p f xs in
+      let b = sum-le (λ (x : A). cond (p x) (f x) 0) f xs (λ x m. part (f x) (p x)) in
+      omega arith
+    where
+      part : (n : ℕ) (t : Bool) → cond t n 0 ≤ n
+      part n true = omega arith
+      part n false = omega arith
+
   pub sum-plus : (f g : A → ℕ) (xs : List A) → sumOf f xs + sumOf g xs ≡ sumOf (λ (x : A). f x + g x) xs
   unfolding sumOf
   sum-plus f g [] = refl

@@ -3,7 +3,7 @@ use mathlib.Core.Path.{_∙_, _≡_, ap, refl, sym}
 use mathlib.Core.Logic.{inl, ⊎-elim}
 use mathlib.Core.Bool.{Bool, _||_, cond, false, true}
 use mathlib.Core.Option.{Option, none, some}
-use mathlib.Core.List.{List, [], _∷_, dropLast, flatMap}
+use mathlib.Core.List.{List, [], _∷_, dropLast, flatMap, getLast?}
 use Prim.Native.Nat.{_%_, _*_, _+_, _/_, _<_, _^_, _≤_, ℕ}
 use native.Mathlib.Nat.{div-add-mod', mod-lt}
 use native.Mathlib.Omega.{arith}
@@ -16,7 +16,7 @@ use Rattle.entry.specs.declared.kinds.Kind.the-variants.{Blob, Chunk, Index, Si
 use Rattle.entry.specs.States.{one}
 use Rattle.entry.specs.Fields.{chunkIndexOf, indexCount, indexSize, indexStart, keyNumber, keyOf, kindIn, namespaceOf}
 use Rattle.page.proofs.Tests.{both-first, both-second}
-use Rattle.lists.specs.Lists.{best, keep, sortBy, sumOf}
+use Rattle.lists.specs.Lists.{keep, sortBy, sumOf}
 use Rattle.lists.proofs.Sums.{sum-ge, sum-keep, sum-le, sum-one, sum-plus}
 use Rattle.lists.proofs.Search.{best-in, best-some, in-keep, keep-in}
 use Rattle.lists.proofs.Maps.{flatMap-each, in-map}
@@ -116,7 +116,7 @@ module _ (fs : List Found) (tidy : Tidy fs) (idle3 : blobSteps fs ≡ []) (idle4
       let n = in-keep (λ (y : Found). ranked (y .raw)) fs x (k .0) a in
       let i : g ∈ groups fs = (in-ascending _ g (rw b at (in-map (λ (y : Found). groupOf (y .raw)) (keep (λ (y : Found). ranked (y .raw)) fs) x n))) in
       let z : outdated fs g ≡ [] = flatMap-each (outdated fs) (groups fs) (onceEach-none _ (eraseAll-none _ (idle4))) g i in
-      let f = flatMap-dropLast fs (best newer (members g fs)) (dropLast (sortBy olderThan (members g fs))) (z) in
+      let f = flatMap-dropLast fs (getLast? (sortBy olderThan (members g fs))) (dropLast (sortBy olderThan (members g fs))) (z) in
       let c = dropLast-none (sortBy olderThan (members g fs)) f in
       let d = length-sort olderThan (members g fs) in
       omega arith

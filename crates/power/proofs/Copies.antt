@@ -5,10 +5,8 @@ use mathlib.Core.Bool.{Bool, cond, false, true}
 use mathlib.Core.List.{List, [], _++_, _∷_, append-assoc, append-nil}
 use Prim.Native.Nat.{_*_, _+_, _-_, _<_, _^_, _≤_, suc, zero, ℕ}
 use native.Mathlib.Omega.{arith}
-use lib.ListN.{List·getD-eq-default, drop, getD, length, length-drop, length-take, take}
+use lib.ListN.{drop, getD, length, length-drop, length-take, take}
 use lib.Seq.{take-nil, take-take}
-use Rattle.word.specs.Number.{part}
-use Rattle.word.proofs.Bytes.{part-byte}
 use Rattle.entry.specs.Fields.{entryAt, spanOf}
 use Rattle.page.specs.declared.state.PageState.the-variants.{Active}
 use Rattle.page.specs.State.{isFree, sequenceOf, stateOf}
@@ -18,6 +16,7 @@ use Rattle.flash.proofs.Laws.{cut-append, run-append}
 use Rattle.flash.proofs.Lent.{AllFit, Fit}
 use Rattle.flash.proofs.Order.{le-or-gt}
 use Rattle.flash.proofs.Every.{every-append, every-none}
+use Rattle.found.proofs.Keys.{part-small}
 use Rattle.item.specs.Copy.{copying}
 use Rattle.item.proofs.Local.{copying-fit}
 use Rattle.relocate.specs.Move.{copies}
@@ -159,11 +158,6 @@ module _ (q : ℕ) (xs : List Laid) (T : List ℕ) where
   ready-seq h D = shape-sequence q T (raws xs) (D .p) (D .shape) h
 
 -- ---- the source's items
-
--- a part of bytes is bytes
-pub part-small : (l : List ℕ) (a n : ℕ) → ((i : ℕ) → getD l i 0 < 256) → (i : ℕ) → getD (part l a n) i 0 < 256
-part-small l a n h i =
-    ⊎-elim (λ k. rw (List·getD-eq-default (part l a n) 0 {n = i} (let z = length-take n (drop a l) in omega arith)) (omega arith)) (λ k. rw (part-byte l a n i k) (h (a + i))) (le-or-gt n i)
 
 module _ (S : List ℕ) (len : length S ≡ 4096) (small : (i : ℕ) → getD S i 0 < 256) where
   fine-raw : (e : ℕ) → IsItem S e → Fine (rawAt S e)

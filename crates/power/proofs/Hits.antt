@@ -1,9 +1,9 @@
 -- Where stage 3 or the duplicates of stage 4 make a step, one of their steps erases the header of an item that was found. Assumes nothing.
 use mathlib.Core.Path.{_≡_, refl}
 use mathlib.Core.Logic.{_⊎_, inl, inr, ⊎-elim}
-use mathlib.Core.Bool.{Bool, _&&_, cond, false, not, true}
+use mathlib.Core.Bool.{Bool, cond, false, true}
 use mathlib.Core.Option.{Option, none, some}
-use mathlib.Core.List.{List, [], _++_, _∷_, dropLast, flatMap}
+use mathlib.Core.List.{List, [], _++_, _∷_, dropLast, flatMap, getLast?}
 use Prim.Native.Nat.{_*_, _+_, _-_, _/_, _≤_, suc, zero, ℕ}
 use native.Mathlib.Nat.{add-zero}
 use native.Mathlib.Omega.{arith}
@@ -12,14 +12,17 @@ use Rattle.entry.specs.Fields.{spanOf}
 use Rattle.flash.specs.Step.{Step}
 use Rattle.item.specs.States.{stateWord, statesDown, unmarking}
 use Rattle.item.specs.Erase.{erasing}
-use Rattle.lists.specs.Lists.{best, insertBy, sortBy}
+use Rattle.lists.specs.Lists.{sortBy}
 use Rattle.lists.proofs.Search.{best-in, keep-in}
 use Rattle.lists.proofs.Out.{dropLast-in}
+use Rattle.lists.proofs.Sorting.{sort-in}
 use Rattle.lists.proofs.Maps.{flatMap-in}
 use Rattle.lists.proofs.Member.{_∈_, in-left, in-right}
-use Rattle.found.specs.Found.{Found, chunkOf, chunks, eraseAll, indexOf, isIndex, newer, startIn, versionOf}
+use Rattle.found.specs.Found.{Found, chunkOf, chunks, eraseAll, indexOf, newer, versionOf}
 use Rattle.blobs.specs.Blobs.{blobSteps, bothSound, counting, dropCounting, dropVersion, indices, judge, judgeWith, older, olderWith, sound, versionIn}
-use Rattle.duplicates.specs.Duplicates.{duplicateSteps, groups, members, olderThan, onceEach, outdated, withChunks}
+use Rattle.duplicates.specs.Duplicates.{duplicateSteps, groups, members, olderThan, outdated, withChunks}
+use Rattle.duplicates.proofs.Once.{once-in}
+use Rattle.duplicates.proofs.Grouping.{with-cases}
 use Rattle.power.proofs.Idle.{newestOf}
 
 abbrev headWord : Found → ℕ → Step
@@ -122,46 +125,13 @@ module _ (fs : List Found) (sp : Spanned fs) where
   blobs-hit = append-hit _ _ (flatMap-hit (judge fs) judge-hit _) (flatMap-hit (older fs) older-hit _)
 
   -- stage 4
-  insert-in : (x : Found) (ys : List Found) (z : Found) → z ∈ insertBy olderThan x ys → (z ≡ x) ⊎ (z ∈ ys)
-  unfolding insertBy
-  insert-in x [] z (inl e) = inl e
-  insert-in x [] z (inr m) = absurd m
-  insert-in x (y ∷ ys) z m = go (olderThan y x) m (insert-in x ys z)
-    where
-      go : (b : Bool) → z ∈ cond b (y ∷ insertBy olderThan x ys) (x ∷ (y ∷ ys)) → (z ∈ insertBy olderThan x ys → (z ≡ x) ⊎ (z ∈ ys)) → (z ≡ x) ⊎ (z ∈ (y ∷ ys))
-      go true (inl e) ih = inr (inl e)
-      go true (inr k) ih = ⊎-elim (λ w. inl w) (λ w. inr (inr w)) (ih k)
-      go false (inl e) ih = inl e
-      go false (inr k) ih = inr k
-
-  sort-in : (xs : List Found) (z : Found) → z ∈ sortBy olderThan xs → z ∈ xs
-  unfolding sortBy
-  sort-in [] z m = absurd m
-  sort-in (x ∷ xs) z m = ⊎-elim (λ e. inl e) (λ k. inr (sort-in xs z k)) (insert-in x (sortBy olderThan xs) z m)
-
-  with-in : (o : Option Found) (x z : Found) → x ∈ fs → z ∈ withChunks fs o x → z ∈ fs
-  unfolding withChunks
-  with-in none x z m (inl e) = rw e m
-  with-in none x z m (inr k) = absurd k
-  with-in (some k) x z m (inl e) = rw e m
-  with-in (some k) x z m (inr w) = go (isIndex (x .raw) && not (isIndex (k .raw) && eqb (startIn (k .raw)) (startIn (x .raw)))) w
-    where
-      go : (b : Bool) → z ∈ cond b (chunks (versionOf (x .raw)) fs) [] → z ∈ fs
-      go true y = keep-in (λ (u : Found). chunkOf (versionOf (x .raw)) (u .raw)) fs z y .0
-      go false y = absurd y
-
   outdated-in : (g : ℕ) (z : Found) → z ∈ outdated fs g → z ∈ fs
   unfolding outdated
   outdated-in g z m =
-      let r = flatMap-in (withChunks fs (best newer (members g fs))) (dropLast (sortBy olderThan (members g fs))) z m in
-      with-in (best newer (members g fs)) (r .0) z
-      (keep-in _ fs (r .0) (sort-in (members g fs) (r .0) (dropLast-in (sortBy olderThan (members g fs)) (r .0) (r .1))) .0) (r .2)
-
-  once-in : (xs : List Found) (z : Found) → z ∈ onceEach xs → z ∈ xs
-  unfolding onceEach
-  once-in [] z m = absurd m
-  once-in (x ∷ xs) z (inl e) = inl e
-  once-in (x ∷ xs) z (inr k) = inr (once-in xs z (keep-in _ (onceEach xs) z k .0))
+      let s = sortBy olderThan (members g fs) in
+      let r = flatMap-in (withChunks fs (getLast? s)) (dropLast s) z m in
+      let k = keep-in _ fs (r .0) (sort-in olderThan (members g fs) (r .0) (dropLast-in s (r .0) (r .1))) .0 in
+      ⊎-elim (λ e. rw e k) (λ p. p .1 .here) (with-cases fs (getLast? s) (r .0) z (r .2))
 
   -- and so does stage 4
   pub dup-hit : (duplicateSteps fs ≡ []) ⊎ Hit fs (duplicateSteps fs)

@@ -26,7 +26,6 @@ pub mod Zeros
 pub mod Programs
 pub mod Hits
 pub mod Unchanged
-pub mod Keys
 pub mod Premises
 pub mod Accepted
 pub mod AllErased

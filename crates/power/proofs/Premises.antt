@@ -27,6 +27,7 @@ use Rattle.table.proofs.Scanning.{record-state}
 use Rattle.table.proofs.Pages.{in-pages}
 use Rattle.table.proofs.Records.{record-sequence}
 use Rattle.found.specs.Found.{Found, found, foundOn, isPart}
+use Rattle.found.proofs.Keys.{key-lt, part-small}
 use Rattle.power.specs.Demand3.{Store, total}
 use Rattle.power.proofs.Quiet.{calm-stable}
 use Rattle.power.proofs.Idle.{Calm}
@@ -35,9 +36,7 @@ use Rattle.power.proofs.State.{Good}
 use Rattle.power.proofs.Calm.{Tidy}
 use Rattle.power.proofs.Unchanged.{no-steps}
 use Rattle.power.proofs.Steps.{free-neither}
-use Rattle.power.proofs.Keys.{key-lt}
 use Rattle.power.proofs.Items.{both-is, walk-in}
-use Rattle.power.proofs.Copies.{part-small}
 use Rattle.power.proofs.Totals.{total-found}
 
 module _ (L : List ℕ) (S : Store L) where

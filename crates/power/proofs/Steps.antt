@@ -29,7 +29,8 @@ use Rattle.power.proofs.Finish.{Seq}
 use Rattle.power.proofs.Read.{noRoom}
 use Rattle.power.proofs.Shape.{AllFine, raws}
 use Rattle.power.proofs.Items.{free-none}
-use Rattle.power.proofs.Copies.{going-active, going-partial, going-seq, items-fine, part-small, ready-items, ready-seq, ready-settled, spans}
+use Rattle.found.proofs.Keys.{part-small}
+use Rattle.power.proofs.Copies.{going-active, going-partial, going-seq, items-fine, ready-items, ready-seq, ready-settled, spans}
 use Rattle.power.proofs.Totals.{onSector, total-sectors}
 
 -- 1 where sector u is free
