@@ -1,8 +1,11 @@
 // Answers a batch of cases on standard input by the proved calls, one answer a case on standard output. All integers are little-endian.
 //
 //     case      u8 op, u64 allowance, u32 records, u32 length, then the image's bytes
-//     op 1      reclaim: u8 result, u64 steps, u8 stage, u32 source, u32 length, the image, u32 0
+//     op 0      recovery: u8 result, u64 steps, u8 stage, u32 source, u32 length, the image, u32 records, then each record's state in 1 byte and its
+//               five numbers in 4 bytes each; of a record that was left unchanged every byte is 0xEE
+//     op 1      reclaim: the same, with no record
 //     op 2      the item reader of one sector: u8 result, u32 count, then each item's entry in 4 bytes and its 32 header bytes
+//     op 3      the listing: u32 length, the text
 //
 // Input that ends inside a case, a length above 131,072 and an op that is none end the run after the last whole case.
 mod bytes;
@@ -30,20 +33,23 @@ fn one_case(image: &mut [u8]) -> bool {
         return false;
     }
     let lent = word::le32(&head, 9) as usize;
-    if head[0] == 0 {
-        return recovery::answer_recover(&mut image[..length], lent, word::le64(&head, 1));
-    }
-    answer(head[0], word::le64(&head, 1), image, length)
+    answer(head[0], word::le64(&head, 1), lent, image, length)
 }
 
-fn answer(op: u8, allowance: u64, image: &mut [u8], length: usize) -> bool
+fn answer(op: u8, allowance: u64, lent: usize, image: &mut [u8], length: usize) -> bool
     requires { do ⌜ length ≤ (← ⟦image.len()⟧) ⌝ }
 {
+    if op == 0 {
+        return recovery::answer_recover(&mut image[..length], lent, allowance);
+    }
     if op == 1 {
         return calls::answer_reclaim(&mut image[..length], allowance);
     }
     if op == 2 {
         return answer_items(&image[..length]);
+    }
+    if op == 3 {
+        return recovery::answer_listing(&mut image[..length]);
     }
     false
 }

@@ -1,10 +1,12 @@
-// The answer to op 0, recovery: a call's, and then the records that were lent.
+// The answers to op 0, recovery: a call's, and then the records that were lent; and to op 3, the listing.
 use crate::bytes::put_byte;
 use crate::bytes::put_four;
 use crate::calls::write_call;
 use libc::STDOUT_FILENO;
 use page::PageRecord;
 use page::PageState;
+use records::Rows;
+ghost use Prim.Native.Nat.{_≤_};
 
 fn state_number(state: PageState) -> u8 {
     match state {
@@ -16,26 +18,10 @@ fn state_number(state: PageState) -> u8 {
     }
 }
 
-// No page has so many entries: what a call leaves unchanged is told by it.
-fn unchanged() -> PageRecord {
-    PageRecord {
-        state: PageState::Blank,
-        sequence: 0xEEEE_EEEE,
-        written: 0xEEEE_EEEE,
-        erased: 0xEEEE_EEEE,
-        empty: 0xEEEE_EEEE,
-        illegal: 0xEEEE_EEEE,
-    }
-}
-
 fn write_record(r: PageRecord) -> bool {
-    let mut out = [0u8; 21];
     let state = r.state;
-    if r.written == 0xEEEE_EEEE {
-        put_byte(&mut out, 0, 0xEE);
-    } else {
-        put_byte(&mut out, 0, state_number(state));
-    }
+    let mut out = [0u8; 21];
+    put_byte(&mut out, 0, state_number(state));
     put_four(&mut out, 1, r.sequence);
     put_four(&mut out, 5, r.written);
     put_four(&mut out, 9, r.erased);
@@ -44,22 +30,53 @@ fn write_record(r: PageRecord) -> bool {
     io::write_all(STDOUT_FILENO, &out)
 }
 
-pub fn answer_recover(image: &mut [u8], lent: usize, allowance: u64) -> bool {
-    let mut records = [unchanged(); 32];
-    let answer = recover::recover(image, &mut records[..lent], allowance);
-    if !write_call(answer, image) {
-        return false;
-    }
-    let mut out = [0u8; 4];
-    put_four(&mut out, 0, lent as u32);
-    io::write_all(STDOUT_FILENO, &out);
+// A record that the call left unchanged.
+fn write_unchanged() -> bool {
+    let out = [0xEEu8; 21];
+    io::write_all(STDOUT_FILENO, &out)
+}
+
+// The rows that were stored, and then unchanged records up to `lent`.
+fn write_records(rows: Rows, lent: usize) -> bool
+    requires { ⌜ rows .count ≤ 16 ⌝ }
+{
+    let mut head = [0u8; 4];
+    put_four(&mut head, 0, (lent % 65536) as u32);
+    let mut going = io::write_all(STDOUT_FILENO, &head);
+    let count = rows.count;
     let mut i: usize = 0;
     while i < lent {
-        let r = records[i];
-        if !write_record(r) {
-            return false;
+        if i < count {
+            let r = rows.rows[i];
+            going = write_record(r) && going;
+        } else {
+            going = write_unchanged() && going;
         }
         i += 1;
     }
-    true
+    going
+}
+
+pub fn answer_recover(image: &mut [u8], lent: usize, allowance: u64) -> bool {
+    let made = recover::recover_image(image, lent, allowance);
+    let answer = made.answer;
+    if write_call(answer, image) {
+        write_records(made.rows, lent)
+    } else {
+        false
+    }
+}
+
+// The text's length, and the text.
+pub fn answer_listing(image: &mut [u8]) -> bool {
+    let length = image.len() as u64;
+    let mut out = [0u8; 2048];
+    let n = listing::list_image(image, length, &mut out);
+    let mut head = [0u8; 4];
+    put_four(&mut head, 0, (n % 65536) as u32);
+    if io::write_all(STDOUT_FILENO, &head) {
+        io::write_all(STDOUT_FILENO, &out[..n])
+    } else {
+        false
+    }
 }

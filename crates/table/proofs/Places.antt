@@ -167,13 +167,13 @@ moved-placed {n} {ps} {fs} x p h e =
       once = λ u.
           let a = sum-append (λ (q : Page). one (inSector u q)) ps (p ∷ []) in
           let b = sum-append (λ (v : ℕ). one (eqb v u)) (dropLast fs) (x .sector ∷ []) in
-          let c = sum-front (λ (v : ℕ). one (eqb v u)) fs (p .sector) e in
+          let c = sum-dropLast (λ (v : ℕ). one (eqb v u)) fs (p .sector) e in
           let d = h .once u in
           omega arith;
       sixteen =
           let a = length-append ps (p ∷ []) in
           let b = length-append (dropLast fs) (x .sector ∷ []) in
-          let c = sum-front (λ (v : ℕ). 1) fs (p .sector) e in
+          let c = sum-dropLast (λ (v : ℕ). 1) fs (p .sector) e in
           let d = length-sum (dropLast fs) in
           let f = length-sum fs in
           omega (arith, h .sixteen);

@@ -1,0 +1,82 @@
+// The listing of an image: it is recovered, and each sector's record is a line.
+mod text;
+
+use answer::Answer;
+use page::PageRecord;
+use page::PageState;
+use text::put_byte;
+use text::put_field;
+use text::put_number;
+use text::put_text;
+ghost use Prim.Native.Nat.{_≤_};
+ghost use lib.ListN.{length};
+
+fn put_state(out: &mut [u8], at: usize, state: PageState) -> usize
+    requires { ⌜ at ≤ length (now out) ⌝ }
+    ensures { λ r. ⌜ r ≤ length (now (out .exit)) ⌝ }
+{
+    match state {
+        PageState::Blank => put_text(out, at, b"blank"),
+        PageState::Corrupt => put_text(out, at, b"corrupt"),
+        PageState::Active => put_text(out, at, b"active"),
+        PageState::Full => put_text(out, at, b"full"),
+        PageState::Freeing => put_text(out, at, b"freeing"),
+    }
+}
+
+// What follows the state of a page: a free sector has nothing to tell.
+fn put_counts(out: &mut [u8], at: usize, r: PageRecord) -> usize
+    requires { ⌜ at ≤ length (now out) ⌝ }
+    ensures { λ r. ⌜ r ≤ length (now (out .exit)) ⌝ }
+{
+    let space = put_byte(out, at, b' ');
+    let sequence = put_number(out, space, r.sequence as u64);
+    let written = put_field(out, sequence, b"written", r.written as u64);
+    let erased = put_field(out, written, b"erased", r.erased as u64);
+    let empty = put_field(out, erased, b"empty", r.empty as u64);
+    put_field(out, empty, b"illegal", r.illegal as u64)
+}
+
+// One line: the sector's number, its state and, of a page, the rest of its record.
+fn put_line(out: &mut [u8], at: usize, n: usize, r: PageRecord) -> usize
+    requires { ⌜ at ≤ length (now out) ⌝ }
+    ensures { λ r. ⌜ r ≤ length (now (out .exit)) ⌝ }
+{
+    let number = put_number(out, at, n as u64);
+    let space = put_byte(out, number, b' ');
+    let state = r.state;
+    let mut to = put_state(out, space, state);
+    if !page::is_free(state) {
+        to = put_counts(out, to, r);
+    }
+    put_byte(out, to, b'\n')
+}
+
+fn put_head(out: &mut [u8], sectors: u64, answer: Answer) -> usize
+    ensures { λ r. ⌜ r ≤ length (now (out .exit)) ⌝ }
+{
+    let word = put_text(out, 0, b"sectors ");
+    let number = put_number(out, word, sectors);
+    let result = put_field(out, number, b"result", answer::number(answer) as u64);
+    let steps = put_field(out, result, b"steps", answer::steps(answer));
+    put_byte(out, steps, b'\n')
+}
+
+// Recovers the image with an allowance that no list of steps reaches and puts its listing into `out`: at most 1,200 bytes. Answers how many. `length` is the
+// image's length, of which `image` may be only a part where it is longer than any image that is recovered.
+pub fn list_image(image: &mut [u8], length: u64, out: &mut [u8]) -> usize
+    ensures { λ r. ⌜ r ≤ length (now (out .exit)) ⌝ }
+{
+    let made = recover::recover_image(image, 16, u64::MAX);
+    let answer = made.answer;
+    let rows = made.rows;
+    let count = rows.count;
+    let mut at = put_head(out, length / 4096, answer);
+    let mut n: usize = 0;
+    while n < count {
+        let r = rows.rows[n];
+        at = put_line(out, at, n, r);
+        n += 1;
+    }
+    at
+}
