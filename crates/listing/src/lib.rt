@@ -62,16 +62,16 @@ fn put_head(out: &mut [u8], sectors: u64, answer: Answer) -> usize
     put_byte(out, steps, b'\n')
 }
 
-// Recovers the image with an allowance that no list of steps reaches and puts its listing into `out`: at most 1,200 bytes. Answers how many. `length` is the
+// Recovers the image with an allowance that no list of steps reaches and puts its listing into `out`: at most 1,200 bytes. Answers how many. `bytes` is the
 // image's length, of which `image` may be only a part where it is longer than any image that is recovered.
-pub fn list_image(image: &mut [u8], length: u64, out: &mut [u8]) -> usize
+pub fn list_image(image: &mut [u8], bytes: u64, out: &mut [u8]) -> usize
     ensures { λ r. ⌜ r ≤ length (now (out .exit)) ⌝ }
 {
     let made = recover::recover_image(image, 16, u64::MAX);
     let answer = made.answer;
     let rows = made.rows;
     let count = rows.count;
-    let mut at = put_head(out, length / 4096, answer);
+    let mut at = put_head(out, bytes / 4096, answer);
     let mut n: usize = 0;
     while n < count {
         let r = rows.rows[n];
