@@ -1,31 +1,27 @@
--- Stage 4's list of steps, group by group and item by item: the items of different groups stand at different places, and within a group an old index
--- finds its chunks erased where one before it has the same start. Assumes nothing.
+-- What goes of a group, item by item: an old index finds its chunks erased where one before it has the same start. Assumes nothing.
 use mathlib.Core.Path.{_≡_, refl, sym, ap, ap₂, _∙_}
 use mathlib.Core.Logic.{_⊎_, inl, inr, ⊎-elim}
 use mathlib.Core.Bool.{Bool, true, false, cond, not, _&&_}
 use mathlib.Core.Option.{Option, none, some}
 use mathlib.Core.List.{List, [], _∷_, _++_, append-assoc, append-nil, getLast?, dropLast, flatMap}
-use Prim.Native.Nat.{ℕ, zero, suc, _^_, _<_}
+use Prim.Native.Nat.{ℕ, _^_, _<_}
 use native.Mathlib.Omega.{arith}
 use lib.Dec.{eqb, leb}
 use borrow.Author.Tests.{not-true, eqb-true, eq-eqb}
 use Rattle.entry.specs.Fields.{namespaceOf, keyOf, keyNumber}
 use Rattle.page.proofs.Tests.{both-first, both-second}
-use Rattle.flash.specs.Step.{Step}
-use Rattle.lists.specs.Lists.{keep, some-of, sortBy, leastFrom, ascendTo, ascendFrom, ascending}
+use Rattle.lists.specs.Lists.{keep, some-of, sortBy}
 use Rattle.lists.proofs.Member.{_∈_, true≢false, none≢some, in-left, in-right}
 use Rattle.lists.proofs.Search.{keep-in, keep-all, keep-none, keep-append, some-is, some-in, some-none}
 use Rattle.lists.proofs.Sums.{sum-keep-le}
-use Rattle.lists.proofs.Maps.{in-flatMap, flatMap-in, flatMap-append, flatMap-ext}
+use Rattle.lists.proofs.Maps.{in-flatMap, flatMap-in, flatMap-append}
 use Rattle.lists.proofs.Out.{sum-dropLast, dropLast-in}
 use Rattle.lists.proofs.Sorting.{sort-in, sum-sort}
-use Rattle.lists.proofs.Ascending.{ascend-from}
-use Rattle.found.specs.Found.{Found, isChunk, isIndex, startIn, versionOf, groupOf, chunkOf, chunks, eraseAll}
-use Rattle.duplicates.specs.Duplicates.{ranked, members, olderThan, withChunks, outdated, samePlace, onceEach, groups, duplicateSteps}
-use Rattle.duplicates.specs.Turns.{indexFrom, takesChunks, oldOne, oldOnce, oldWith, oldOf, groupSteps}
-use Rattle.duplicates.proofs.Once.{fresh, fresh-none, fresh-end, fresh-item, once-alone, fresh-append, once-append, once-in, Once, once-fewer, same-self, once-other, once-only, once-same}
+use Rattle.found.specs.Found.{Found, isChunk, isIndex, startIn, versionOf, groupOf, chunkOf, chunks}
+use Rattle.duplicates.specs.Duplicates.{ranked, members, olderThan, withChunks, outdated, samePlace, onceEach}
+use Rattle.duplicates.specs.Turns.{indexFrom, takesChunks, oldOne, oldOnce, oldWith, oldOf}
+use Rattle.duplicates.proofs.Once.{refuted, fresh, fresh-none, fresh-end, fresh-item, once-alone, fresh-append, once-append, Once, once-fewer, same-self, once-other, once-only, once-same}
 use Rattle.duplicates.proofs.Versions.{version-tells, version-of}
-use Rattle.duplicates.proofs.Taking.{erase-append}
 
 -- the items stand at different places, and their keys are of bytes
 pub record Apart (fs : List Found) : Type 0 where
@@ -74,11 +70,7 @@ with-cases fs (some k) b z (inr m) = inr (go (isIndex (b .raw)) (not (isIndex (k
 module _ (fs : List Found) (apart : Apart fs) where
   -- a chunk stands where no other item stands
   kinds-apart : (y z : Found) → y ∈ fs → z ∈ fs → (isChunk (y .raw) ≡ isChunk (z .raw) → ⊥) → samePlace y z ≡ false
-  kinds-apart y z m n h = go (samePlace y z) refl
-    where
-      go : (t : Bool) → samePlace y z ≡ t → samePlace y z ≡ false
-      go true q = absurd (h (ap (λ (x : Found). isChunk (x .raw)) (once-only fs y z (apart .once) m n q)))
-      go false q = q
+  kinds-apart y z m n h = refuted (samePlace y z) (λ q. h (ap (λ (x : Found). isChunk (x .raw)) (once-only fs y z (apart .once) m n q)))
 
   -- ---- one group, of which k is kept
   module _ (g : ℕ) (k : Found) where
@@ -139,14 +131,11 @@ module _ (fs : List Found) (apart : Apart fs) where
           with-it c n = inr (rw (both, version) n)
 
       -- no index before it is of its version
-      chunks-kept : takes x ≡ true → earlier ≡ false → fresh (went before) own ≡ own
-      chunks-kept e s =
+      chunks-kept : earlier ≡ false → fresh (went before) own ≡ own
+      chunks-kept s =
           keep-all (λ (y : Found). not (some-of (λ (z : Found). samePlace z y) (went before))) own (λ c n.
           ap not (some-none (λ (z : Found). samePlace z c) (went before) (λ z q. one-of c (part-of fs (versionOf (x .raw)) c n) z (flatMap-in (withChunks fs (some k)) before z q))))
         where
-          index : isIndex (x .raw) ≡ true
-          index = both-first (isIndex (x .raw)) _ e
-
           clash : (c : Found) → Part fs (versionOf (x .raw)) c → (b z : Found) → b ∈ before → isIndex (b .raw) ≡ true → Part fs (versionOf (b .raw)) z → samePlace z c ≡ true → ⊥
           clash c p b z n i q f =
               let same = once-only fs z c (apart .once) (q .here) (p .here) f in
@@ -156,12 +145,8 @@ module _ (fs : List Found) (apart : Apart fs) where
 
           one-of : (c : Found) → Part fs (versionOf (x .raw)) c → (z : Found) → ((b : Found) × (b ∈ before) × (z ∈ withChunks fs (some k) b)) → samePlace z c ≡ false
           one-of c p z r =
-              ⊎-elim (λ w. ap (λ (y : Found). samePlace y c) w ∙ kinds-apart (r .0) c (old (r .0) (r .1) .here) (p .here) (λ q. true≢false (p .chunk) (sym q ∙ old (r .0) (r .1) .whole))) (λ w. go (samePlace z c) refl w)
+              ⊎-elim (λ w. ap (λ (y : Found). samePlace y c) w ∙ kinds-apart (r .0) c (old (r .0) (r .1) .here) (p .here) (λ q. true≢false (p .chunk) (sym q ∙ old (r .0) (r .1) .whole))) (λ w. refuted (samePlace z c) (clash c p (r .0) z (r .1) (w .0) (w .1)))
               (with-cases fs (some k) (r .0) z (r .2))
-            where
-              go : (t : Bool) → samePlace z c ≡ t → (isIndex (r .0 .raw) ≡ true) × Part fs (versionOf (r .0 .raw)) z → samePlace z c ≡ false
-              go true f w = absurd (clash c p (r .0) z (r .1) (w .0) (w .1) f)
-              go false f w = f
 
       one-turn : ((b : Found) → b ∈ before → samePlace b x ≡ false) → fresh (went before) (onceEach (withChunks fs (some k) x)) ≡ oldOne fs k before x
       unfolding withChunks oldOne takesChunks
@@ -170,7 +155,7 @@ module _ (fs : List Found) (apart : Apart fs) where
           go : (t : Bool) → takes x ≡ t → (s : Bool) → earlier ≡ s → fresh (went before) (onceEach (x ∷ cond t own [])) ≡ x ∷ cond (t && not s) own []
           go false e s f = ap (fresh (went before)) (once-alone x) ∙ fresh-item (went before) x [] (item-fresh h) ∙ ap {B = List Found} (λ (ys : List Found). x ∷ ys) (fresh-end (went before))
           go true e true f = ap (fresh (went before)) own-once ∙ fresh-item (went before) x own (item-fresh h) ∙ ap {B = List Found} (λ (ys : List Found). x ∷ ys) (chunks-gone e f)
-          go true e false f = ap (fresh (went before)) own-once ∙ fresh-item (went before) x own (item-fresh h) ∙ ap {B = List Found} (λ (ys : List Found). x ∷ ys) (chunks-kept e f)
+          go true e false f = ap (fresh (went before)) own-once ∙ fresh-item (went before) x own (item-fresh h) ∙ ap {B = List Found} (λ (ys : List Found). x ∷ ys) (chunks-kept f)
 
     all-turns : (before xs : List Found) → ((y : Found) → y ∈ (before ++ xs) → Member fs g y) → Once (before ++ xs) → fresh (went before) (onceEach (went xs)) ≡ oldOnce fs k before xs
     unfolding oldOnce onceEach flatMap keep
@@ -203,7 +188,7 @@ module _ (fs : List Found) (apart : Apart fs) where
   sorted-of : (g : ℕ) (y : Found) → y ∈ sortBy olderThan (members g fs) → Member fs g y
   sorted-of g y n = member-of fs g y (sort-in olderThan (members g fs) y n)
 
-  group-turns : (g : ℕ) → onceEach (outdated fs g) ≡ oldOf fs (sortBy olderThan (members g fs))
+  pub group-turns : (g : ℕ) → onceEach (outdated fs g) ≡ oldOf fs (sortBy olderThan (members g fs))
   unfolding outdated oldOf
   group-turns g =
       of-sorted g (sortBy olderThan (members g fs)) (sorted-of g) (
@@ -213,8 +198,8 @@ module _ (fs : List Found) (apart : Apart fs) where
       omega arith) (apart .once)
       )
 
-  -- ---- groups are erased one by one
-  outdated-of : (g : ℕ) (z : Found) → z ∈ outdated fs g → (z ∈ fs) × (groupOf (z .raw) ≡ g)
+  -- all that goes of a group is of the group
+  pub outdated-of : (g : ℕ) (z : Found) → z ∈ outdated fs g → (z ∈ fs) × (groupOf (z .raw) ≡ g)
   unfolding outdated
   outdated-of g z m =
       ⊎-elim (λ e. (rw e (b .here), ap (λ (y : Found). groupOf (y .raw)) e ∙ b .group)) (λ p. (p .1 .here, version-tells (z .raw) (r .0 .raw) (apart .keys z (p .1 .here)) (apart .keys (r .0) (b .here)) (p .1 .version) .0 ∙ b .group))
@@ -228,45 +213,3 @@ module _ (fs : List Found) (apart : Apart fs) where
 
       b : Member fs g (r .0)
       b = sorted-of g (r .0) (dropLast-in s (r .0) (r .1))
-
-  -- what goes of another group stands elsewhere
-  groups-fresh : (g : ℕ) (gs : List ℕ) → ((h : ℕ) → h ∈ gs → g < h) → fresh (outdated fs g) (onceEach (flatMap (outdated fs) gs)) ≡ onceEach (flatMap (outdated fs) gs)
-  groups-fresh g gs above =
-      keep-all (λ (y : Found). not (some-of (λ (x : Found). samePlace x y) (outdated fs g))) (onceEach (flatMap (outdated fs) gs)) (λ y n.
-      ap not (some-none (λ (x : Found). samePlace x y) (outdated fs g) (λ x m. apart-of x y m (flatMap-in (outdated fs) gs y (once-in (flatMap (outdated fs) gs) y n)))))
-    where
-      apart-of : (x y : Found) → x ∈ outdated fs g → ((h : ℕ) × (h ∈ gs) × (y ∈ outdated fs h)) → samePlace x y ≡ false
-      apart-of x y m r = go (samePlace x y) refl
-        where
-          go : (t : Bool) → samePlace x y ≡ t → samePlace x y ≡ false
-          go true q =
-              let a = outdated-of g x m in
-              let b = outdated-of (r .0) y (r .2) in
-              let e : g ≡ r .0 = sym (a .1) ∙ ap (λ (z : Found). groupOf (z .raw)) (once-only fs x y (apart .once) (a .0) (b .0) q) ∙ b .1 in
-              let l = above (r .0) (r .1) in
-              absurd (omega arith)
-          go false q = q
-
-  groups-once : (n v : ℕ) (cs : List ℕ) → onceEach (flatMap (outdated fs) (ascendFrom n v cs)) ≡ flatMap (λ (g : ℕ). onceEach (outdated fs g)) (ascendFrom n v cs)
-  unfolding ascendFrom ascendTo flatMap onceEach
-  groups-once zero v cs = refl
-  groups-once (suc n) v cs = go (leastFrom v cs) (λ w. groups-once n (suc w) cs)
-    where
-      go : (o : Option ℕ) → ((w : ℕ) → onceEach (flatMap (outdated fs) (ascendFrom n (suc w) cs)) ≡ flatMap (λ (g : ℕ). onceEach (outdated fs g)) (ascendFrom n (suc w) cs))
-          → onceEach (flatMap (outdated fs) (ascendTo (λ (w : ℕ). ascendFrom n (suc w) cs) o)) ≡ flatMap (λ (g : ℕ). onceEach (outdated fs g)) (ascendTo (λ (w : ℕ). ascendFrom n (suc w) cs) o)
-      go none ih = refl
-      go (some w) ih =
-          let gs = ascendFrom n (suc w) cs in
-          once-append (outdated fs w) (flatMap (outdated fs) gs)
-          ∙ ap (λ (ys : List Found). onceEach (outdated fs w) ++ ys) (groups-fresh w gs (λ h m. ascend-from n (suc w) cs h m) ∙ ih w)
-
-  erase-groups : (f : ℕ → List Found) (gs : List ℕ) → eraseAll (flatMap f gs) ≡ flatMap (λ (g : ℕ). eraseAll (f g)) gs
-  unfolding flatMap
-  erase-groups f [] = unfold eraseAll in refl
-  erase-groups f (g ∷ gs) = erase-append (f g) (flatMap f gs) ∙ ap (λ (ss : List Step). eraseAll (f g) ++ ss) (erase-groups f gs)
-
-  pub steps-are : duplicateSteps fs ≡ flatMap (groupSteps fs) (groups fs)
-  unfolding duplicateSteps groups ascending groupSteps
-  steps-are =
-      ap eraseAll (groups-once _ 0 _) ∙ erase-groups (λ (g : ℕ). onceEach (outdated fs g)) _
-      ∙ flatMap-ext (λ (g : ℕ). eraseAll (onceEach (outdated fs g))) (groupSteps fs) _ (λ g m. ap eraseAll (group-turns g))

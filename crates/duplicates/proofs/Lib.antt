@@ -4,4 +4,5 @@ pub mod Marking
 pub mod Once
 pub mod Versions
 pub mod Grouping
+pub mod Groups
 pub mod Apart

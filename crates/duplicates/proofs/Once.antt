@@ -16,6 +16,11 @@ use Rattle.table.proofs.Places.{only}
 use Rattle.found.specs.Found.{Found}
 use Rattle.duplicates.specs.Duplicates.{samePlace, onceEach}
 
+-- a test that cannot have held
+pub refuted : (b : Bool) → (b ≡ true → ⊥) → b ≡ false
+refuted true h = absurd (h refl)
+refuted false h = refl
+
 -- those that stand where none of the seen ones stands
 abbrev pub fresh : List Found → List Found → List Found
 fresh seen ys = keep (λ (y : Found). not (some-of (λ (x : Found). samePlace x y) seen)) ys
@@ -82,19 +87,16 @@ same-self x = rw (eq-eqb (x .sector) (x .sector) refl, eq-eqb (x .entry) (x .ent
 
 -- of a list in two parts, none of the first stands where one of the second stands
 pub once-other : (a b : List Found) (x y : Found) → Once (a ++ b) → x ∈ a → y ∈ b → samePlace x y ≡ false
-once-other a b x y o m n = go (samePlace x y) refl
-  where
-    go : (t : Bool) → samePlace x y ≡ t → samePlace x y ≡ false
-    go true e =
-        let f : Found → ℕ = λ (z : Found). one (samePlace z y) in
-        let p : one (samePlace x y) ≡ 1 = ap one e in
-        let q : one (samePlace y y) ≡ 1 = ap one (same-self y) in
-        let u = sum-ge f a x m in
-        let v = sum-ge f b y n in
-        let w = sum-append f a b in
-        let s = o .times y in
-        absurd (omega arith)
-    go false e = e
+once-other a b x y o m n =
+    refuted (samePlace x y) (λ e.
+    let f : Found → ℕ = λ (z : Found). one (samePlace z y) in
+    let p : one (samePlace x y) ≡ 1 = ap one e in
+    let q : one (samePlace y y) ≡ 1 = ap one (same-self y) in
+    let u = sum-ge f a x m in
+    let v = sum-ge f b y n in
+    let w = sum-append f a b in
+    let s = o .times y in
+    omega arith)
 
 pub once-only : (fs : List Found) (x y : Found) → Once fs → x ∈ fs → y ∈ fs → samePlace x y ≡ true → x ≡ y
 once-only fs x y o m n e = sym (only (λ (z : Found). samePlace z y) fs x y (o .times y) m e n (same-self y))

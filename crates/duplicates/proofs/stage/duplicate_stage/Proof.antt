@@ -14,7 +14,7 @@ use Rattle.found.specs.Places.{itemsAt}
 use Rattle.found.proofs.Finding.{items-found, found-placed}
 use Rattle.duplicates.specs.Duplicates.{groups, duplicateSteps, lastMarks, duplicateStage}
 use Rattle.duplicates.specs.Turns.{groupSteps}
-use Rattle.duplicates.proofs.Grouping.{steps-are}
+use Rattle.duplicates.proofs.Groups.{steps-are}
 use Rattle.duplicates.proofs.Apart.{found-apart}
 use Rattle.duplicates.proofs.stage.duplicate_stage.Statement.{statement}
 use Rattle.duplicates.proofs.stage.duplicate_stage.Tie as tie
