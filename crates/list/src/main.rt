@@ -60,7 +60,10 @@ fn main() {
     let mut path = io::buffer();
     let n = os::arg(1, &mut path);
     if n == 0 {
-        io::write_all(STDERR_FILENO, b"list: the name of the image is empty or too long\n");
+        io::write_all(
+            STDERR_FILENO,
+            b"list: the name of the image is empty or too long\n",
+        );
         return;
     }
     list_file(&path[..n]);

@@ -29,12 +29,19 @@ fn put_counts(out: &mut [u8], at: usize, r: PageRecord) -> usize
     requires { ⌜ at ≤ length (now out) ⌝ }
     ensures { λ r. ⌜ r ≤ length (now (out .exit)) ⌝ }
 {
-    let space = put_byte(out, at, b' ');
-    let sequence = put_number(out, space, r.sequence as u64);
-    let written = put_field(out, sequence, b"written", r.written as u64);
+    let written = put_field(out, at, b"written", r.written as u64);
     let erased = put_field(out, written, b"erased", r.erased as u64);
     let empty = put_field(out, erased, b"empty", r.empty as u64);
     put_field(out, empty, b"illegal", r.illegal as u64)
+}
+
+fn put_page(out: &mut [u8], at: usize, r: PageRecord) -> usize
+    requires { ⌜ at ≤ length (now out) ⌝ }
+    ensures { λ r. ⌜ r ≤ length (now (out .exit)) ⌝ }
+{
+    let space = put_byte(out, at, b' ');
+    let sequence = put_number(out, space, r.sequence as u64);
+    put_counts(out, sequence, r)
 }
 
 // One line: the sector's number, its state and, of a page, the rest of its record.
@@ -45,11 +52,12 @@ fn put_line(out: &mut [u8], at: usize, n: usize, r: PageRecord) -> usize
     let number = put_number(out, at, n as u64);
     let space = put_byte(out, number, b' ');
     let state = r.state;
-    let mut to = put_state(out, space, state);
-    if !page::is_free(state) {
-        to = put_counts(out, to, r);
+    let word = put_state(out, space, state);
+    if page::is_free(state) {
+        return put_byte(out, word, b'\n');
     }
-    put_byte(out, to, b'\n')
+    let end = put_page(out, word, r);
+    put_byte(out, end, b'\n')
 }
 
 fn put_head(out: &mut [u8], sectors: u64, answer: Answer) -> usize
