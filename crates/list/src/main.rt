@@ -2,43 +2,47 @@
 use libc::STDERR_FILENO;
 use libc::STDIN_FILENO;
 use libc::STDOUT_FILENO;
+ghost use Prim.Native.Nat.{_≤_};
 
-// What follows the bytes already read: how many more there are, or that reading failed.
-enum Rest {
+// How many bytes the input has, or that reading failed.
+enum Size {
     Bytes(u64),
     Failed,
 }
 
-// Nothing says that the input ends, and a proved loop has to: it counts down from a number of reads that no run reaches.
-fn rest_of(fd: i32) -> Rest {
+// Of the input, `got` bytes were read: the rest is read for its length alone. Nothing says that the input ends, and a proved loop has to: it counts down from
+// a number of reads that no run reaches.
+fn size_of(fd: i32, got: usize) -> Size
+    requires { ⌜ got ≤ 69632 ⌝ }
+{
     let mut chunk = [0u8; 4096];
-    let mut more: u64 = 0;
+    let mut bytes = got as u64;
     let mut left: u32 = u32::MAX;
     while 0 < left {
         left -= 1;
         let got = libc::read(fd, &mut chunk);
         if got < 0 {
-            return Rest::Failed;
+            return Size::Failed;
         }
         let n = io::count(got, &chunk);
         if n == 0 {
-            return Rest::Bytes(more);
+            return Size::Bytes(bytes);
         }
-        more += n as u64;
+        bytes += n as u64;
     }
-    Rest::Bytes(more)
+    Size::Bytes(bytes)
 }
 
 // An image of more than 16 sectors is refused whatever its bytes are: 17 sectors of it stand for all.
 fn list(fd: i32, name: &[u8]) {
     let mut image = [0u8; 69632];
     let got = io::read_full(fd, &mut image);
-    let Rest::Bytes(more) = rest_of(fd) else {
+    let Size::Bytes(bytes) = size_of(fd, got) else {
         os::fail(name);
         return;
     };
     let mut out = [0u8; 2048];
-    let n = listing::list_image(&mut image[..got], got as u64 + more, &mut out);
+    let n = listing::list_image(&mut image[..got], bytes, &mut out);
     io::write_all(STDOUT_FILENO, &out[..n]);
 }
 

@@ -10,6 +10,7 @@ use text::put_number;
 use text::put_text;
 ghost use Prim.Native.Nat.{_≤_};
 ghost use lib.ListN.{length};
+ghost use Rattle.io.specs.Counts.{Counts};
 
 fn put_state(out: &mut [u8], at: usize, state: PageState) -> usize
     requires { ⌜ at ≤ length (now out) ⌝ }
@@ -73,7 +74,7 @@ fn put_head(out: &mut [u8], sectors: u64, answer: Answer) -> usize
 // Recovers the image with an allowance that no list of steps reaches and puts its listing into `out`: at most 1,200 bytes. Answers how many. `bytes` is the
 // image's length, of which `image` may be only a part where it is longer than any image that is recovered.
 pub fn list_image(image: &mut [u8], bytes: u64, out: &mut [u8]) -> usize
-    ensures { λ r. ⌜ r ≤ length (now (out .exit)) ⌝ }
+    ensures { λ r. ⌜ Counts r (now (out .exit)) ⌝ }
 {
     let made = recover::recover_image(image, 16, u64::MAX);
     let answer = made.answer;

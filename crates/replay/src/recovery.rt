@@ -36,25 +36,33 @@ fn write_unchanged() -> bool {
     io::write_all(STDOUT_FILENO, &out)
 }
 
-// The rows that were stored, and then unchanged records up to `lent`.
+// Record number `i`: a row that was stored, or unchanged behind them.
+fn write_row(rows: Rows, i: usize) -> bool
+    requires { ⌜ rows .count ≤ 16 ⌝ }
+{
+    if i < rows.count {
+        let r = rows.rows[i];
+        return write_record(r);
+    }
+    write_unchanged()
+}
+
 fn write_records(rows: Rows, lent: usize) -> bool
     requires { ⌜ rows .count ≤ 16 ⌝ }
 {
     let mut head = [0u8; 4];
     put_four(&mut head, 0, (lent % 65536) as u32);
-    let mut going = io::write_all(STDOUT_FILENO, &head);
-    let count = rows.count;
+    if !io::write_all(STDOUT_FILENO, &head) {
+        return false;
+    }
     let mut i: usize = 0;
     while i < lent {
-        if i < count {
-            let r = rows.rows[i];
-            going = write_record(r) && going;
-        } else {
-            going = write_unchanged() && going;
+        if !write_row(rows, i) {
+            return false;
         }
         i += 1;
     }
-    going
+    true
 }
 
 pub fn answer_recover(image: &mut [u8], lent: usize, allowance: u64) -> bool {

@@ -1,8 +1,8 @@
 -- `listing::list_image` meets its contract: a line for each row, of which there are 16 at most. Assumes nothing.
-use mathlib.Core.Path.{_≡_, refl}
+use mathlib.Core.Path.{_≡_, refl, sym}
 use Prim.Native.Nat.{_-_, _≤_}
-use native.Mathlib.Omega.{arith}
 use lib.ListN.{length}
+use lib.Seq.{length-take-le}
 use borrow.Author.Needs.{needs}
 use Rattle.listing.proofs.list_image.Statement.{statement}
 use Rattle.listing.proofs.list_image.Tie as tie
@@ -15,6 +15,9 @@ abbrev μ-loop : tie.MeasureT-loop
 
 loop-holds : tie.Need-loop-holds Inv-loop μ-loop
 loop-holds c = (c .before .before .put-head .ensures, refl, c .before .before .before .before .before .before .before .recover-image .ensures .few)
+
+returns : tie.Need-returns Inv-loop μ-loop
+returns c = let l = c .before .loop in (l .inv .0, sym (length-take-le (l .at) (l .out) (l .inv .0)))
 
 pub list-image-spec : {M : Type 1} → statement M
 list-image-spec =
@@ -33,4 +36,4 @@ list-image-spec =
     (λ c. search needs)
     (λ c. search needs)
     (λ c. search needs)
-    (λ c. search needs))
+    returns)

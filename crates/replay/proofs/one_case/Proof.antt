@@ -1,6 +1,6 @@
-use lib.Seq.{length-take-le}
 use mathlib.Core.Path.{sym}
 use native.Mathlib.Omega.{arith}
+use lib.Seq.{length-take-le}
 use borrow.Author.Needs.{needs}
 use Rattle.replay.proofs.one_case.Statement.{statement}
 use Rattle.replay.proofs.one_case.Tie as tie
@@ -23,6 +23,9 @@ one-case-spec =
     slice-aggregate-read-full-2
     (λ c κs. search needs)
     (λ c. search needs)
+    (λ c. search needs)
+    (λ c. search needs)
+    (λ c κs. search needs)
     (λ c. search needs)
     (λ c. search needs)
     (λ c. search needs)
