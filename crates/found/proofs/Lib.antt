@@ -5,3 +5,4 @@ pub mod Finding
 pub mod Ranking
 pub mod Searching
 pub mod Erasing
+pub mod Codes
