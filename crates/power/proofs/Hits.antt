@@ -20,7 +20,7 @@ use Rattle.lists.proofs.Member.{_∈_, in-left, in-right}
 use Rattle.found.specs.Found.{Found, chunkOf, chunks, eraseAll, indexOf, isIndex, newer, startIn, versionOf}
 use Rattle.blobs.specs.Blobs.{blobSteps, bothSound, counting, dropCounting, dropVersion, indices, judge, judgeWith, older, olderWith, sound, versionIn}
 use Rattle.duplicates.specs.Duplicates.{duplicateSteps, groups, members, olderThan, onceEach, outdated, withChunks}
-use Rattle.power.proofs.Idle.{newestOf}
+use Rattle.quick.proofs.Idle.{newestOf}
 
 abbrev headWord : Found → ℕ → Step
 headWord x n = stateWord (x .sector * 4096) (x .entry) n 3 (x .entry / 16)

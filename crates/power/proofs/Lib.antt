@@ -1,6 +1,4 @@
 pub mod Items
-pub mod Counts
-pub mod Idle
 pub mod Calm
 pub mod Plain
 pub mod Read
@@ -26,7 +24,6 @@ pub mod Zeros
 pub mod Programs
 pub mod Hits
 pub mod Unchanged
-pub mod Keys
 pub mod Premises
 pub mod Accepted
 pub mod AllErased
