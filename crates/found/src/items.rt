@@ -1,65 +1,30 @@
 // What stands at a place.
 use super::ranks::Rank;
-use entry::Kind;
 use flash::Ran;
 ghost use mathlib.Core.Path.{_≡_};
 ghost use mathlib.Core.Bool.{_||_};
 ghost use Prim.Native.Nat.{_+_, _%_, _≤_, _<_};
 ghost use lib.ListN.{length};
-ghost use Rattle.entry.specs.Fields.{namespaceOf, spanOf, kindIn};
+ghost use Rattle.entry.specs.Fields.{namespaceOf, spanOf};
 ghost use Rattle.flash.specs.Did.{Did};
 ghost use Rattle.item.specs.Erase.{erasing};
-ghost use Rattle.found.specs.Found.{newer, chunkKind, indexKind, isChunk, isIndex, isPart, startIn, versionOf, groupOf};
+ghost use Rattle.found.specs.Found.{newer, isChunk, isIndex, isPart, startIn, versionOf, groupOf};
 ghost use Rattle.found.specs.Places.{itemAt, Placed, Alike};
 ghost use Rattle.found.specs.Ranks.{rankNumber};
 
-fn chunk_kind(kind: Kind) -> bool
-    ensures { λ r. ⌜ r ≡ chunkKind kind ⌝ }
-{
-    match kind {
-        Kind::Unsigned(_) => false,
-        Kind::Signed(_) => false,
-        Kind::Text => false,
-        Kind::Blob => false,
-        Kind::Chunk => true,
-        Kind::Index => false,
-        Kind::Unknown => false,
-    }
-}
-
-fn index_kind(kind: Kind) -> bool
-    ensures { λ r. ⌜ r ≡ indexKind kind ⌝ }
-{
-    match kind {
-        Kind::Unsigned(_) => false,
-        Kind::Signed(_) => false,
-        Kind::Text => false,
-        Kind::Blob => false,
-        Kind::Chunk => false,
-        Kind::Index => true,
-        Kind::Unknown => false,
-    }
-}
-
-fn kind_at(image: &[u8], place: usize) -> Kind
-    requires { ⌜ Placed (now image) place ⌝ }
-    ensures { λ r. ⌜ r ≡ kindIn (itemAt (now (image .entry)) place .raw) ⌝ }
-{
-    entry::kind_of(image[place * 32 + 1])
-}
-
+// By the type byte alone, as each item is asked for it more than once.
 pub fn is_chunk(image: &[u8], place: usize) -> bool
     requires { ⌜ Placed (now image) place ⌝ }
     ensures { λ r. ⌜ r ≡ isChunk (itemAt (now (image .entry)) place .raw) ⌝ }
 {
-    chunk_kind(kind_at(image, place))
+    image[place * 32 + 1] == 0x42
 }
 
 pub fn is_index(image: &[u8], place: usize) -> bool
     requires { ⌜ Placed (now image) place ⌝ }
     ensures { λ r. ⌜ r ≡ isIndex (itemAt (now (image .entry)) place .raw) ⌝ }
 {
-    index_kind(kind_at(image, place))
+    image[place * 32 + 1] == 0x48
 }
 
 // A chunk or a blob index.

@@ -19,3 +19,7 @@ both-first false b e = e
 pub both-second : (a b : Bool) → (a && b) ≡ true → b ≡ true
 both-second true b e = e
 both-second false b e = absurd (let z : _≡_ {A = ℕ} 0 1 = cc in omega arith)
+
+-- two tests that hold, hold together
+pub both-is : (a b : Bool) → a ≡ true → b ≡ true → a && b ≡ true
+both-is a b p q = rw (p, q)

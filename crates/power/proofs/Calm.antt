@@ -1,94 +1,35 @@
 -- The other way: where stages 3 and 4 make no step, the items are calm. Assumes nothing.
-use mathlib.Core.Path.{_∙_, _≡_, ap, refl, sym}
+use mathlib.Core.Path.{_∙_, _≡_, refl, sym}
 use mathlib.Core.Logic.{inl, ⊎-elim}
 use mathlib.Core.Bool.{Bool, _||_, cond, false, true}
 use mathlib.Core.Option.{Option, none, some}
 use mathlib.Core.List.{List, [], _∷_, dropLast, flatMap, getLast?}
-use Prim.Native.Nat.{_%_, _*_, _+_, _/_, _<_, _^_, _≤_, ℕ}
-use native.Mathlib.Nat.{div-add-mod', mod-lt}
+use Prim.Native.Nat.{_+_, _<_, _^_, _≤_, ℕ}
 use native.Mathlib.Omega.{arith}
-use lib.Arith.{digits-div, digits-mod}
-use lib.Dec.{eqb, lit<, ltb}
+use lib.Dec.{eqb}
 use lib.ListN.{length}
 use borrow.Author.Tests.{eq-eqb, eqb-true, le-leb}
-use Rattle.entry.specs.declared.kinds.Kind.{Kind}
-use Rattle.entry.specs.declared.kinds.Kind.the-variants.{Blob, Chunk, Index, Signed, Text, Unknown, Unsigned}
 use Rattle.entry.specs.States.{one}
-use Rattle.entry.specs.Fields.{chunkIndexOf, indexCount, indexSize, indexStart, keyNumber, keyOf, kindIn, namespaceOf}
-use Rattle.page.proofs.Tests.{both-first, both-second}
+use Rattle.entry.specs.Fields.{indexCount, indexSize, keyNumber, keyOf, namespaceOf}
+use Rattle.page.proofs.Tests.{both-first, both-is, both-second}
 use Rattle.lists.specs.Lists.{keep, sortBy, sumOf}
 use Rattle.lists.proofs.Sums.{sum-ge, sum-keep, sum-le, sum-one, sum-plus}
 use Rattle.lists.proofs.Search.{best-in, best-some, in-keep, keep-in}
 use Rattle.lists.proofs.Maps.{flatMap-each, in-map}
 use Rattle.lists.proofs.Sorting.{dropLast-none, length-sort}
 use Rattle.lists.proofs.Ascending.{in-ascending}
-use Rattle.lists.proofs.Member.{_∈_, nil-left, nil≢, none≢some, true≢false}
-use Rattle.found.specs.Found.{Found, chunkKind, chunkOf, chunks, groupOf, indexKind, indexOf, isChunk, isIndex, isPart, newer, startIn, versionOf}
+use Rattle.lists.proofs.Member.{_∈_, nil-left, nil≢, none≢some}
+use Rattle.found.specs.Found.{Found, chunkOf, chunks, groupOf, indexOf, isChunk, isIndex, isPart, newer, versionOf}
 use Rattle.blobs.specs.Blobs.{blobSteps, counting, dropVersion, indices, judge, judgeWith, sizeIn, sound, versionIn}
 use Rattle.duplicates.specs.Duplicates.{duplicateSteps, groups, members, olderThan, onceEach, outdated, ranked, withChunks}
-use Rattle.power.proofs.Idle.{Calm, erase-some, eraseAll-none, inGroup, partOf, tot}
-use Rattle.power.proofs.Counts.{length-keep, length-one, one-true, pos-in}
-use Rattle.power.proofs.Items.{both-is}
+use Rattle.quick.specs.Calm.{Calm, inGroup, partOf, tot}
+use Rattle.quick.proofs.Idle.{erase-some, eraseAll-none}
+use Rattle.quick.proofs.Counts.{length-keep, length-one, one-le, one-true, pos-in}
+use Rattle.quick.proofs.Versions.{groupIn, index-not-chunk, index-part, pow-pos, split-in, version-group, versionIn-ne}
 
 -- the items are made of bytes, and none of namespace 0 is a blob part
 abbrev pub Tidy : List Found → Type 0
 Tidy fs = (x : Found) → x ∈ fs → (keyNumber (keyOf (x .raw)) < 2 ^ 128) × (isPart (x .raw) ≡ true → 1 ≤ namespaceOf (x .raw))
-
--- the group of a version
-abbrev groupIn : ℕ → ℕ
-groupIn v = v / 2 ^ 128 / 256 * 2 ^ 128 + v % 2 ^ 128
-
-start-le : (r : List ℕ) → startIn r ≤ 128
-unfolding startIn
-start-le r = go (ltb (cond (isChunk r) (chunkIndexOf r) (indexStart r)) 0x80)
-  where
-    go : (b : Bool) → cond b 0 0x80 ≤ 128
-    go true = omega arith
-    go false = omega arith
-
--- over a base that nothing computes
-split-group : (b n st k v : ℕ) → k < b → st ≤ 128 → (n * 256 + st) * b + k ≡ v → v / b / 256 * b + v % b ≡ n * b + k
-split-group b n st k v h g e =
-    let p : v / b ≡ n * 256 + st = rw (← e) (digits-div (n * 256 + st) h) in
-    let q : v % b ≡ k = rw (← e) (digits-mod (n * 256 + st) h) in
-    let r : (n * 256 + st) / 256 ≡ n = omega arith in
-    rw (p, q, r)
-
-split-in : (b g s : ℕ) → 0 < b → s ≤ 128 → ((g / b * 256 + s) * b + g % b) / b / 256 * b + ((g / b * 256 + s) * b + g % b) % b ≡ g
-split-in b g s z h = split-group b (g / b) s (g % b) ((g / b * 256 + s) * b + g % b) (mod-lt g z) h refl ∙ div-add-mod' g b
-
-version-group : (v : ℕ) (r : List ℕ) → keyNumber (keyOf r) < 2 ^ 128 → versionOf r ≡ v → groupOf r ≡ groupIn v
-unfolding versionOf groupOf
-version-group v r h e = sym (split-group (2 ^ 128) (namespaceOf r) (startIn r) (keyNumber (keyOf r)) v h (start-le r) e)
-
-pow-pos : 0 < 2 ^ 128
-pow-pos = lit< tt
-
-versionIn-ne : (b g : ℕ) → 0 < b → (g / b * 256 + 0) * b + g % b ≡ (g / b * 256 + 128) * b + g % b → ⊥
-versionIn-ne b g z e =
-    let p : ((g / b * 256 + 0) * b + g % b) / b ≡ g / b * 256 + 0 = digits-div (g / b * 256 + 0) (mod-lt g z) in
-    let q : ((g / b * 256 + 128) * b + g % b) / b ≡ g / b * 256 + 128 = digits-div (g / b * 256 + 128) (mod-lt g z) in
-    let r : g / b * 256 + 0 ≡ g / b * 256 + 128 = sym p ∙ ap (λ (n : ℕ). n / b) e ∙ q in
-    omega arith
-
-index-part : (r : List ℕ) → isIndex r ≡ true → isPart r ≡ true
-index-part r e = rw e (go (isChunk r))
-  where
-    go : (b : Bool) → b || true ≡ true
-    go true = refl
-    go false = refl
-
-index-not-chunk : (r : List ℕ) → isIndex r ≡ true → isChunk r ≡ false
-index-not-chunk r e = go (kindIn r) e
-  where
-    go : (k : Kind) → indexKind k ≡ true → chunkKind k ≡ false
-    go (Unsigned n) q = refl
-    go (Signed n) q = refl
-    go Text q = refl
-    go Blob q = refl
-    go Chunk q = absurd (true≢false q refl)
-    go Index q = refl
-    go Unknown q = refl
 
 onceEach-none : (xs : List Found) → onceEach xs ≡ [] → xs ≡ []
 unfolding onceEach
@@ -136,10 +77,6 @@ module _ (fs : List Found) (tidy : Tidy fs) (idle3 : blobSteps fs ≡ []) (idle4
       let t = tidy x m in
       rw
       (index-not-chunk (x .raw) i, le-leb 1 (namespaceOf (x .raw)) (t .1 (index-part (x .raw) i)), eq-eqb (groupOf (x .raw)) (groupIn v) (version-group v (x .raw) (t .0) w))
-
-  one-le : (a b : Bool) → (a ≡ true → b ≡ true) → one a ≤ one b
-  one-le true b h = rw (h refl) (omega arith)
-  one-le false b h = omega arith
 
   lone : (v : ℕ) → tot (λ (r : List ℕ). one (indexOf v r)) fs ≤ 1
   lone v =

@@ -15,7 +15,7 @@ use Rattle.page.specs.declared.«record».PageRecord.{PageRecord}
 use Rattle.page.specs.declared.state.PageState.the-variants.{Active, Full}
 use Rattle.page.specs.State.{isFree, sequenceOf, stateOf}
 use Rattle.page.specs.Walk.{Laid, itemsOf}
-use Rattle.page.proofs.Tests.{both-first, both-second}
+use Rattle.page.proofs.Tests.{both-first, both-is, both-second}
 use Rattle.flash.specs.Step.{erase, run, sector}
 use Rattle.relocate.specs.Move.{moving}
 use Rattle.lists.specs.Lists.{firstOf, sumOf, takeOut}
@@ -33,7 +33,7 @@ use Rattle.power.proofs.Plain.{finish, finishOn, finishWith, rescan}
 use Rattle.power.proofs.Shape.{raws}
 use Rattle.power.proofs.State.{Good, Old, Side, Source, SourceRecord, TargetRecord, old-full, old-sequence}
 use Rattle.power.proofs.Same.{holds-is, same-eq, same-refl}
-use Rattle.power.proofs.Items.{both-is, listed-items}
+use Rattle.power.proofs.Items.{listed-items}
 use Rattle.power.proofs.Totals.{onSector, total-sectors}
 
 -- a sequence that a new target may have: above those of all pages, and not too high for what comes after

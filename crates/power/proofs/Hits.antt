@@ -23,7 +23,7 @@ use Rattle.blobs.specs.Blobs.{blobSteps, bothSound, counting, dropCounting, dro
 use Rattle.duplicates.specs.Duplicates.{duplicateSteps, groups, members, olderThan, outdated, withChunks}
 use Rattle.duplicates.proofs.Once.{once-in}
 use Rattle.duplicates.proofs.Grouping.{with-cases}
-use Rattle.power.proofs.Idle.{newestOf}
+use Rattle.quick.proofs.Idle.{newestOf}
 
 abbrev headWord : Found → ℕ → Step
 headWord x n = stateWord (x .sector * 4096) (x .entry) n 3 (x .entry / 16)

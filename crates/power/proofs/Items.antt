@@ -13,15 +13,11 @@ use Rattle.entry.specs.States.{stateAt, written}
 use Rattle.entry.specs.Fields.{entryAt, spanOf}
 use Rattle.page.specs.State.{isFree, stateOf}
 use Rattle.page.specs.Walk.{Laid, fits, isItem, itemsOf, laidAt, onFrom, readable, rightHeader, walk}
-use Rattle.page.proofs.Tests.{both-first, both-second}
+use Rattle.page.proofs.Tests.{both-first, both-is, both-second}
 use Rattle.page.proofs.Walking.{item-span}
 use Rattle.flash.specs.Step.{sector}
 use Rattle.lists.proofs.Member.{_∈_}
 use Rattle.table.specs.Table.{itemsIn}
-
--- two tests that hold, hold together
-pub both-is : (a b : Bool) → a ≡ true → b ≡ true → a && b ≡ true
-both-is a b p q = rw (p, q)
 
 -- the bytes of the item at entry i, header and payload
 abbrev pub rawAt : List ℕ → ℕ → List ℕ

@@ -1,6 +1,4 @@
 pub mod Items
-pub mod Counts
-pub mod Idle
 pub mod Calm
 pub mod Plain
 pub mod Read

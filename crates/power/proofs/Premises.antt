@@ -15,6 +15,7 @@ use Rattle.page.specs.declared.state.PageState.the-variants.{Active, Blank, Cor
 use Rattle.page.specs.Record.{recordOf}
 use Rattle.page.specs.State.{isFree, sequenceOf, stateOf}
 use Rattle.page.specs.Walk.{Laid}
+use Rattle.page.proofs.Tests.{both-is}
 use Rattle.flash.specs.Step.{sector}
 use Rattle.flash.proofs.Order.{le-or-gt}
 use Rattle.lists.proofs.Sums.{sum-ge}
@@ -30,13 +31,13 @@ use Rattle.found.specs.Found.{Found, found, foundOn, isPart}
 use Rattle.found.proofs.Keys.{key-lt, part-small}
 use Rattle.power.specs.Demand3.{Store, total}
 use Rattle.power.proofs.Quiet.{calm-stable}
-use Rattle.power.proofs.Idle.{Calm}
+use Rattle.quick.specs.Calm.{Calm}
 use Rattle.power.proofs.Plain.{plain, plain-same}
 use Rattle.power.proofs.State.{Good}
 use Rattle.power.proofs.Calm.{Tidy}
 use Rattle.power.proofs.Unchanged.{no-steps}
 use Rattle.power.proofs.Steps.{free-neither}
-use Rattle.power.proofs.Items.{both-is, walk-in}
+use Rattle.power.proofs.Items.{walk-in}
 use Rattle.power.proofs.Totals.{total-found}
 
 module _ (L : List ℕ) (S : Store L) where

@@ -17,7 +17,7 @@ use Rattle.table.specs.Table.{activePage}
 use Rattle.found.specs.Found.{Found, chunks, eraseAll, versionOf}
 use Rattle.blobs.specs.Blobs.{blobSteps, bothSound, counting, dropCounting, dropVersion, judge, judgeWith, older, olderWith, sound, versionIn}
 use Rattle.duplicates.specs.Duplicates.{duplicateStage, duplicateSteps, lastMarks}
-use Rattle.power.proofs.Idle.{newestOf}
+use Rattle.quick.proofs.Idle.{newestOf}
 use Rattle.power.proofs.Read.{noRoom}
 use Rattle.power.proofs.Plain.{stages}
 use Rattle.power.proofs.Zeros.{Prog}

@@ -1,5 +1,5 @@
 -- Where recovery has nothing to do. Assumes nothing.
-use mathlib.Core.Path.{_∙_, _≡_, fun-ext, refl, sym}
+use mathlib.Core.Path.{_∙_, _≡_, refl, sym}
 use mathlib.Core.Logic.{⊎-elim}
 use mathlib.Core.Bool.{Bool, _&&_, false, true}
 use mathlib.Core.Option.{Option, none, some}
@@ -22,15 +22,12 @@ use Rattle.duplicates.specs.Duplicates.{duplicateStage, duplicateSteps, lastMar
 use Rattle.finishing.specs.Finishing.{freeings}
 use Rattle.power.specs.Demand3.{total}
 use Rattle.power.proofs.Lone.{Lone, a-in, active-is, kept-order, keptAs}
-use Rattle.power.proofs.Idle.{Calm, blob-idle, duplicate-idle, tot}
+use Rattle.quick.specs.Calm.{Calm, tot}
+use Rattle.quick.proofs.Idle.{blob-idle, calm-same, duplicate-idle}
 use Rattle.power.proofs.Read.{noRoom}
 use Rattle.power.proofs.Plain.{onward, orderOn, plain, stages}
 use Rattle.power.proofs.Calm.{Tidy, calm}
 use Rattle.power.proofs.Totals.{found-total, total-found, total-walked, walked}
-
--- calm is a fact of the sums alone
-pub calm-same : (S T : (List ℕ → ℕ) → ℕ) → ((f : List ℕ → ℕ) → S f ≡ T f) → Calm T → Calm S
-calm-same S T h C = let e : S ≡ T = fun-ext h in rw e C
 
 -- ---- stages 3 and 4 on a list with calm items
 pub stages-idle : (ps : List Page) (l : List ℕ) → Calm (λ (f : List ℕ → ℕ). tot f (found ps l))

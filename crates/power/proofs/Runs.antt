@@ -10,8 +10,9 @@ use Rattle.table.specs.Table.{frees, pages}
 use Rattle.order.specs.Order.{kept, ordered, ordering}
 use Rattle.finishing.specs.Finishing.{freeings}
 use Rattle.power.specs.Demand3.{total}
-use Rattle.power.proofs.Quiet.{calm-same, order-idle, order-none, plain-rest}
-use Rattle.power.proofs.Idle.{Calm}
+use Rattle.power.proofs.Quiet.{order-idle, order-none, plain-rest}
+use Rattle.quick.specs.Calm.{Calm}
+use Rattle.quick.proofs.Idle.{calm-same}
 use Rattle.power.proofs.Plain.{finishOn, onward, plain, rescan}
 use Rattle.power.proofs.State.{State}
 use Rattle.power.proofs.Steps.{Final}

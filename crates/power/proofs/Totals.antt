@@ -15,7 +15,7 @@ use Rattle.table.proofs.Sectors.{sumTo, sumTo-ext}
 use Rattle.table.proofs.Pages.{sum-pages}
 use Rattle.found.specs.Found.{Found, found, foundOn}
 use Rattle.power.specs.Demand3.{stored, total}
-use Rattle.power.proofs.Idle.{tot}
+use Rattle.quick.specs.Calm.{tot}
 use Rattle.power.proofs.Items.{free-none, listed-items}
 
 -- f summed over the items of sector u

@@ -39,3 +39,8 @@ length-keep p (x ∷ xs) = go (p x) (length-keep p xs)
     go : (b : Bool) → length (keep p xs) ≡ sumOf (λ (x : _). one (p x)) xs → length (cond b (x ∷ keep p xs) (keep p xs)) ≡ one b + sumOf (λ (x : _). one (p x)) xs
     go true q = omega arith
     go false q = omega arith
+
+-- where the one test holds, the other does
+pub one-le : (a b : Bool) → (a ≡ true → b ≡ true) → one a ≤ one b
+one-le true b h = rw (h refl) (omega arith)
+one-le false b h = omega arith

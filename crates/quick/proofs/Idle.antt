@@ -1,6 +1,5 @@
--- Stages 3 and 4 make no step where the items are calm, which is a fact of sums over their bytes: so it goes over to any store with the same sums.
--- Assumes nothing.
-use mathlib.Core.Path.{_∙_, _≡_, refl, sym}
+-- Stages 3 and 4 make no step where the items are calm. Assumes nothing.
+use mathlib.Core.Path.{_∙_, _≡_, fun-ext, refl, sym}
 use mathlib.Core.Bool.{Bool, _&&_, _||_, cond, false, true}
 use mathlib.Core.Option.{Option, none, some}
 use mathlib.Core.List.{List, [], _∷_, flatMap, map}
@@ -10,46 +9,29 @@ use lib.Dec.{eqb}
 use borrow.Author.Tests.{eq-eqb}
 use Rattle.entry.specs.States.{one}
 use Rattle.entry.specs.Fields.{indexCount, indexSize, spanOf}
-use Rattle.page.proofs.Tests.{both-first, both-second}
+use Rattle.page.proofs.Tests.{both-first, both-is, both-second}
 use Rattle.item.specs.States.{statesDown, unmarking}
 use Rattle.item.specs.Erase.{erasing}
-use Rattle.lists.specs.Lists.{ascending, best, better, keep, sortBy, sumOf}
+use Rattle.lists.specs.Lists.{ascending, best, better, keep, sortBy}
 use Rattle.lists.proofs.Sums.{sum-ge, sum-keep, sum-one}
 use Rattle.lists.proofs.Search.{best-in, keep-in}
 use Rattle.lists.proofs.Maps.{flatMap-none, map-in}
 use Rattle.lists.proofs.Sorting.{dropLast-short, length-sort}
 use Rattle.lists.proofs.Ascending.{ascending-in}
 use Rattle.lists.proofs.Member.{_∈_, nil-left, nil≢, true≢false}
-use Rattle.found.specs.Found.{Found, chunkOf, eraseAll, groupOf, indexOf, isIndex, isPart, newer, versionOf}
-use Rattle.blobs.specs.Blobs.{blobSteps, bothSound, counting, indices, judge, judgeWith, older, olderWith, sizeIn, sound, soundOne, versionIn}
-use Rattle.duplicates.specs.Duplicates.{duplicateSteps, groups, members, olderThan, onceEach, outdated, ranked}
-use Rattle.power.proofs.Counts.{length-keep, length-one, one-true}
-use Rattle.power.proofs.Items.{both-is}
-
--- f summed over the bytes of the items found
-abbrev pub tot : (List ℕ → ℕ) → List Found → ℕ
-tot f fs = sumOf (λ (x : Found). f (x .raw)) fs
-
--- a part of version v
-abbrev pub partOf : ℕ → List ℕ → Bool
-partOf v r = isPart r && eqb (versionOf r) v
-
--- an item of group g that stage 4 judges
-abbrev pub inGroup : ℕ → List ℕ → Bool
-inGroup g r = ranked r && eqb (groupOf r) g
+use Rattle.found.specs.Found.{Found, eraseAll, groupOf, indexOf, isIndex, isPart, newer, versionOf}
+use Rattle.blobs.specs.Blobs.{blobSteps, bothSound, counting, indices, judge, judgeWith, older, olderWith, sound, soundOne, versionIn}
+use Rattle.duplicates.specs.Duplicates.{duplicateSteps, groups, members, olderThan, onceEach, outdated}
+use Rattle.quick.specs.Calm.{Calm, inGroup, partOf, tot}
+use Rattle.quick.proofs.Counts.{length-keep, length-one, one-true}
 
 -- the newest index of the two versions of group g
 abbrev pub newestOf : ℕ → List Found → Option Found
 newestOf g fs = best newer (keep (λ (x : Found). indexOf (versionIn g 0) (x .raw) || indexOf (versionIn g 0x80) (x .raw)) fs)
 
--- all in sums: so it goes over to any store with the same sums
-pub record Calm (T : (List ℕ → ℕ) → ℕ) : Type 0 where
-  pub single : (g : ℕ) → T (λ (r : List ℕ). one (inGroup g r)) ≤ 1
-  pub lone : (v : ℕ) → T (λ (r : List ℕ). one (indexOf v r)) ≤ 1
-  pub not-both : (g : ℕ) → T (λ (r : List ℕ). one (indexOf (versionIn g 0) r)) + T (λ (r : List ℕ). one (indexOf (versionIn g 0x80) r)) ≤ 1
-  pub has : (v : ℕ) → 1 ≤ T (λ (r : List ℕ). one (partOf v r)) → 1 ≤ T (λ (r : List ℕ). one (indexOf v r))
-  pub count : (v : ℕ) → 1 ≤ T (λ (r : List ℕ). one (indexOf v r)) → T (λ (r : List ℕ). cond (indexOf v r) (indexCount r) 0) ≡ T (λ (r : List ℕ). one (chunkOf v r))
-  pub size : (v : ℕ) → 1 ≤ T (λ (r : List ℕ). one (indexOf v r)) → T (λ (r : List ℕ). cond (indexOf v r) (indexSize r) 0) ≡ T (sizeIn v)
+-- calm is a fact of the sums alone
+pub calm-same : (S T : (List ℕ → ℕ) → ℕ) → ((f : List ℕ → ℕ) → S f ≡ T f) → Calm T → Calm S
+calm-same S T h C = let e : S ≡ T = fun-ext h in rw e C
 
 -- ---- an erasure has a step
 pub erase-some : (s i n : ℕ) → erasing s i n ≡ [] → ⊥

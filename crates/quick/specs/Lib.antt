@@ -1,0 +1,4 @@
+pub mod Calm
+pub mod Names
+pub mod Slots
+pub mod Fits
