@@ -12,6 +12,7 @@ pub struct Lent {
     pub records: [PageRecord; 32],
 }
 
+// In a function of its own, which the borrow checker covers: `recover_lent`, which lends records, is proved by hand.
 fn both(answer: Answer, records: [PageRecord; 32]) -> Lent
     ensures { λ r. ⌜ (r .answer ≡ answer) × (r .records ≡ records) ⌝ }
 {
