@@ -4,6 +4,7 @@ use crate::branch::Branch;
 use crate::notes;
 use crate::scan::{greatest, Page};
 use crate::sector::{total, EntryState, State};
+use crate::slip::{slipped, Slip};
 use crate::steps::{Run, Stage};
 
 /// "The Active page of greatest sequence, the first among equals": its place in the list.
@@ -21,7 +22,11 @@ pub fn active_order(run: &mut Run, pages: &mut [Page]) {
     let Some(kept) = kept_place(pages) else { return };
     let last = pages.len() - 1;
     pages.swap(kept, last);
-    for page in &mut pages[..last] {
+    let mut others: Vec<&mut Page> = pages[..last].iter_mut().collect();
+    if slipped(Slip::MarkedInOldOrder) && kept < last {
+        others[kept..].rotate_left(1);
+    }
+    for page in others {
         if page.state == State::Active {
             run.met(Branch::OrderMarksOther);
             run.mark_full(page.sector);
@@ -33,5 +38,8 @@ pub fn active_order(run: &mut Run, pages: &mut [Page]) {
         notes::kept_to_mark(run, kept.sector);
         run.mark_full(kept.sector);
         kept.state = State::Full;
+    }
+    if slipped(Slip::ChangeOfPlacesForgotten) {
+        pages.sort_by_key(|page| page.sector);
     }
 }

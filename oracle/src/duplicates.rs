@@ -3,10 +3,12 @@
 use std::collections::{BTreeMap, BTreeSet};
 
 use crate::branch::Branch;
-use crate::items::Key;
+use crate::items::{Item, Key};
 use crate::notes;
+use crate::other_way;
 use crate::scan::{Found, Page};
 use crate::sector::{state, total, EntryState, State};
+use crate::slip::{slipped, Slip};
 use crate::steps::{Run, Stage};
 
 /// "Items left that are not chunks and not of namespace 0, grouped by namespace and key, groups ascending".
@@ -43,21 +45,31 @@ fn erase_old(run: &mut Run, found: &[Found], mut group: Vec<&Found>) {
     let (kept, old) = group.split_last().expect("a group has an item");
     run.met_if(old.len() > 1, Branch::DuplicateSeveralOld);
     let mut erased = BTreeSet::new();
+    let mut put_off = Vec::new();
     for old in old {
         if !erased.is_empty() {
             run.met_if_stopped_here(Branch::DuplicateStoppedAfterChunks);
         }
         notes::duplicate(run, found, old, kept);
-        run.erase_entries(old.sector, old.item.entry, old.item.span());
-        let kept_has_same_start = kept.item.is_blob_index() && kept.item.start() == old.item.start();
+        let one_entry = slipped(Slip::OldIndexErasedByOneEntry) && old.item.is_blob_index();
+        run.erase_entries(old.sector, old.item.entry, if one_entry { 1 } else { old.item.span() });
+        let by_byte = slipped(Slip::SameStartByByte);
+        let start = |item: &Item| if by_byte { item.header[29] } else { item.start() };
+        let kept_has_same_start = kept.item.is_blob_index() && start(&kept.item) == start(&old.item);
         if old.item.is_blob_index() && !kept_has_same_start {
-            erase_chunks(run, &chunks_of(found, old), &mut erased);
+            let chunks = chunks_of(found, old);
+            if slipped(Slip::ChunksAfterAllOld) {
+                put_off.extend(chunks);
+            } else {
+                erase_chunks(run, &chunks, &mut erased);
+            }
         }
     }
+    erase_chunks(run, &put_off, &mut erased);
 }
 
 /// "Last step of this stage: an Active page that now has no Empty entry is marked Full."
-fn mark_filled(run: &mut Run, pages: &[Page]) {
+pub fn mark_filled(run: &mut Run, pages: &[Page]) {
     let in_this_stage = run.list.iter().any(|tagged| tagged.stage == Stage::Duplicates);
     for page in pages {
         let sector = run.sector(page.sector);
@@ -72,7 +84,7 @@ pub fn duplicates(run: &mut Run, found: &[Found], pages: &[Page]) {
     run.stage = Stage::Duplicates;
     let groups = groups(found);
     notes::groups(run, &groups);
-    for group in groups.into_values() {
+    for group in groups.into_values().flat_map(other_way::parted) {
         erase_old(run, found, group);
     }
     mark_filled(run, pages);

@@ -1,7 +1,9 @@
 //! Entries, the item walk and the item reader.
 
 use crate::crc::crc;
+use crate::other_way;
 use crate::sector::{entry_state, free, number, state, EntryState, ENTRIES, ENTRY_BYTES, SECTOR_BYTES};
+use crate::slip::{slipped, Slip};
 
 pub const CHUNK: u8 = 0x42;
 pub const BLOB_INDEX: u8 = 0x48;
@@ -39,7 +41,11 @@ impl Item {
     }
 
     pub fn key(&self) -> Key {
-        self.header[8..24].try_into().expect("16 bytes")
+        let key = self.header[8..24].try_into().expect("16 bytes");
+        if slipped(Slip::KeyEndsAtZeroByte) {
+            return other_way::key_up_to_zero(key);
+        }
+        key
     }
 
     pub fn is_chunk(&self) -> bool {

@@ -18,8 +18,10 @@ mod generate;
 mod items;
 mod listing;
 mod mishaps;
+mod mutants;
 mod named;
 mod notes;
+mod other_way;
 mod protocol;
 mod random;
 mod reclaim;
@@ -27,6 +29,7 @@ mod recover;
 mod sample;
 mod scan;
 mod sector;
+mod slip;
 mod steps;
 #[cfg(test)]
 mod tests;
@@ -43,6 +46,7 @@ oracle check CASES ANSWERS
 oracle generate COUNT SEED [--ops 0,1,2,3] > cases
 oracle cover COUNT SEED [--ops 0,1,2,3]
 oracle compare PROGRAM COUNT SEED [--ops 0,1,2,3]
+oracle mutants [CASES ANSWERS]..
 oracle sample 0,1,2,3 > cases";
 
 /// "0,2" and the like: the operations by their numbers in the batch protocol.
@@ -99,6 +103,11 @@ fn run(mut arguments: Vec<String>) -> Result<bool, Box<dyn Error>> {
         ["cover", count, seed] => return Ok(cover::cover(count.parse()?, seed.parse()?, &operations)),
         ["compare", program, count, seed] => {
             return Ok(compare::compare(program, count.parse()?, seed.parse()?, &operations)?)
+        }
+        ["mutants"] => return Ok(mutants::mutants(&mutants::files_of_gate())?),
+        ["mutants", ref files @ ..] if files.len() % 2 == 0 => {
+            let pairs = files.chunks(2).map(|pair| (pair[0].to_string(), pair[1].to_string()));
+            return Ok(mutants::mutants(&pairs.collect::<Vec<_>>())?);
         }
         ["sample", list] => write_cases(operations_of(list)?.into_iter().flat_map(sample::sample))?,
         _ => return Err(USAGE.into()),

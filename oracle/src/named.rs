@@ -1,8 +1,11 @@
 //! The cases that document 01 names, each built by hand.
 
+use crate::items::{BLOB_INDEX, CHUNK};
 use crate::protocol::{Case, Operation};
 use crate::sector::{EntryState, ACTIVE_WORD, FREEING_WORD, FULL_WORD};
-use crate::writing::{blank_sector, empty_page, key_of, set_entry, set_entry_state, Fields};
+use crate::writing::{
+    blank_sector, chunk_data, empty_page, index_data, key_of, set_entry, set_entry_state, Fields,
+};
 
 /// A one-entry item of namespace 1 and type 0x01.
 pub fn number_item(key: &str, value: u8) -> Fields {
@@ -83,4 +86,43 @@ fn named_images(operation: Operation) -> Vec<Vec<u8>> {
 pub fn named_cases(operation: Operation) -> Vec<Case> {
     let case = |image| Case { operation, allowance: u64::MAX, records: 16, image };
     named_images(operation).into_iter().map(case).collect()
+}
+
+/// An item of 17 entries, so of two state words, whose payload reads as items; and an Erased entry.
+fn payload_like_items() -> Vec<u8> {
+    let payload = (0..16).map(|value| number_item("p", value));
+    let header = Fields { kind: 0x21, span: 17, ..number_item("a", 1) };
+    let mut full = page(FULL_WORD, 7, &[header].into_iter().chain(payload).collect::<Vec<_>>());
+    set_entry_state(&mut full, 17, EntryState::Erased);
+    [full, blank_sector()].concat()
+}
+
+/// A Freeing page and an Active page that has the first of its two items.
+fn partial_copy_beside_freeing() -> Vec<u8> {
+    let freeing = page(FREEING_WORD, 3, &[number_item("a", 1), number_item("b", 2)]);
+    [freeing, page(ACTIVE_WORD, 4, &[number_item("a", 1)])].concat()
+}
+
+/// A blob of two chunks that have one chunk index: sound, for chunks are counted.
+fn one_chunk_index_twice() -> Vec<u8> {
+    let chunk = Fields { kind: CHUNK, chunk_index: 0, data: chunk_data(5), ..number_item("a", 0) };
+    let index = Fields { kind: BLOB_INDEX, data: index_data(10, 2, 0), ..number_item("a", 0) };
+    [blank_sector(), page(FULL_WORD, 7, &[chunk, chunk, index])].concat()
+}
+
+/// Cases for slips that the cases chosen by their branches do not show (slip.rs): a copy stopped between its
+/// two state words, a finish stopped at the copy's erasure, and two chunks of one chunk index.
+pub fn slip_cases(operation: Operation) -> Vec<Case> {
+    let case = |allowance, image| Case { operation, allowance, records: 16, image };
+    let marked_and_initialised = 1 + 8;
+    let words_and_one_of_states = 17 * 8 + 1;
+    match operation {
+        Operation::Reclaim => {
+            vec![case(marked_and_initialised + words_and_one_of_states, payload_like_items())]
+        }
+        Operation::Recover => {
+            vec![case(0, partial_copy_beside_freeing()), case(u64::MAX, one_chunk_index_twice())]
+        }
+        Operation::ItemReader | Operation::Listing => Vec::new(),
+    }
 }

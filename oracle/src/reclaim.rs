@@ -2,8 +2,10 @@
 
 use crate::branch::Branch;
 use crate::notes;
+use crate::other_way::taken_for_erased;
 use crate::scan::{greatest, scan, whole_sectors, Lists, Page};
 use crate::sector::{total, EntryState, State, ENTRIES};
+use crate::slip::{slipped, Slip};
 use crate::steps::{call, Outcome, Run, Stage};
 
 /// A page with fewer than 126 Written entries.
@@ -21,7 +23,8 @@ impl Candidate {
         if self.erased == 0 {
             return 0;
         }
-        10 * u64::from(self.erased) + (self.next - u64::from(self.page.sequence))
+        let age = self.next - u64::from(self.page.sequence);
+        10 * u64::from(self.erased) + if slipped(Slip::NextWraps) { age & 0xFFFF_FFFF } else { age }
     }
 }
 
@@ -29,8 +32,11 @@ impl Candidate {
 fn candidates(run: &Run, pages: &[Page]) -> Vec<Candidate> {
     let next = greatest(pages).map_or(0, |greatest| u64::from(greatest) + 1);
     let of = |page: &Page, state| total(run.sector(page.sector), state);
-    let unfilled = pages.iter().filter(|page| of(page, EntryState::Written) < ENTRIES as u32);
-    unfilled.map(|page| Candidate { page: *page, erased: of(page, EntryState::Erased), next }).collect()
+    let left_out = |page: &Page| slipped(Slip::FreeingNotChosen) && page.state == State::Freeing;
+    let unfilled = |page: &&Page| of(page, EntryState::Written) < ENTRIES as u32 && !left_out(page);
+    let erased = |page: &Page| of(page, EntryState::Erased) + taken_for_erased(run.sector(page.sector));
+    let candidate = |page: &Page| Candidate { page: *page, erased: erased(page), next };
+    pages.iter().filter(unfilled).map(candidate).collect()
 }
 
 /// "Most points win, the last in the list among equals." The last greatest is what max_by_key gives.
@@ -52,7 +58,8 @@ fn way(run: &mut Run, lists: &Lists, chosen: &Page) -> Result<Way, u8> {
     }
     let greatest = greatest(&lists.pages).expect("a page was chosen");
     notes::last_sequences(run, greatest, lists.free.is_empty());
-    let Some(&target) = lists.free.last() else {
+    let first = slipped(Slip::ReclaimTakesFirstFree);
+    let Some(&target) = (if first { lists.free.first() } else { lists.free.last() }) else {
         return Err(5);
     };
     if greatest > 0xFFFF_FFFD {
@@ -69,7 +76,9 @@ fn free_page(run: &mut Run, chosen: &Page, way: Way) {
         Way::CopyTo { target, sequence } => {
             run.met(Branch::ReclaimCopies);
             run.met_if(chosen.state == State::Freeing, Branch::ReclaimMarksAgain);
-            run.mark_freeing(chosen.sector);
+            if !(slipped(Slip::FreeingNotMarkedAgain) && chosen.state == State::Freeing) {
+                run.mark_freeing(chosen.sector);
+            }
             run.initialise(target, sequence);
             run.copy_items(chosen.sector, target);
         }

@@ -3,11 +3,13 @@
 use crate::active_order::active_order;
 use crate::blobs::blobs;
 use crate::branch::Branch;
-use crate::duplicates::duplicates;
+use crate::duplicates::{duplicates, mark_filled};
 use crate::finish::finish;
 use crate::notes;
+use crate::other_way;
 use crate::scan::{found, greatest, scan, whole_sectors, Lists, Page};
 use crate::sector::{record, Record, State, SECTOR_BYTES};
+use crate::slip::{slipped, Slip};
 use crate::steps::{call, Outcome, Run, Stage};
 
 pub fn freeing_pages(lists: &Lists) -> u32 {
@@ -30,14 +32,20 @@ fn refusal(run: &mut Run, lent_records: usize) -> Option<u8> {
     if lent_records < sectors {
         return Some(2);
     }
+    if slipped(Slip::RefusedWhereSequenceNeeded) && !other_way::takes_sequence(run) {
+        return None;
+    }
     sequences_run_out(&lists).then_some(6)
 }
 
 /// "Recovery, in order". "Repeat until no page counts as Freeing; if there was one, scan again and do 1
 /// again."
-fn stages(run: &mut Run) {
+pub fn stages(run: &mut Run) {
     let mut lists = scan(&run.image);
     active_order(run, &mut lists.pages);
+    if slipped(Slip::BlobsBeforeFinish) {
+        blobs(run, &found(&run.image, &lists.pages));
+    }
     if finish(run, &mut lists) {
         let finished = lists.pages;
         lists = scan(&run.image);
@@ -52,8 +60,16 @@ fn stages(run: &mut Run) {
 /// "This stage and the next each judge by the items found as they begin".
 pub fn judge_items(run: &mut Run, pages: &[Page]) {
     let begun = found(&run.image, pages);
-    blobs(run, &begun);
-    let left = found(&run.image, pages);
+    if !slipped(Slip::BlobsBeforeFinish) {
+        blobs(run, &begun);
+    }
+    if slipped(Slip::FilledPageMarkedByBlobs) {
+        mark_filled(run, pages);
+    }
+    let mut left = found(&run.image, pages);
+    if slipped(Slip::NotWalkedAnew) {
+        left = other_way::still_written(run, &begun);
+    }
     notes::uncovered(run, &begun, &left);
     duplicates(run, &left, pages);
 }

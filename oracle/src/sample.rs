@@ -6,7 +6,7 @@ use std::collections::BTreeSet;
 use crate::branch::Branch;
 use crate::case_branches::branches_of;
 use crate::generate::case_of;
-use crate::named::named_cases;
+use crate::named::{named_cases, slip_cases};
 use crate::protocol::{Case, Operation};
 
 /// How many generated cases an operation's sample is chosen from, and their seed.
@@ -77,7 +77,7 @@ fn drop_needless(chosen: &mut Vec<Candidate>, met_before: &Branches) {
     }
 }
 
-/// The named cases of an operation, recovery's case of 16 sectors, then the chosen ones.
+/// The named cases of an operation, recovery's case of 16 sectors, the chosen ones, then those for slips.
 pub fn sample(operation: Operation) -> Vec<Case> {
     let mut cases = named_cases(operation);
     let mut met: Branches = cases.iter().flat_map(own_branches).collect();
@@ -91,5 +91,6 @@ pub fn sample(operation: Operation) -> Vec<Case> {
     drop_needless(&mut chosen, &met_before);
     let numbers = longest.iter().chain(&chosen).map(|candidate| candidate.number);
     cases.extend(numbers.map(|number| case_of(SEED, number, &[operation])));
+    cases.extend(slip_cases(operation));
     cases
 }

@@ -2,6 +2,7 @@
 
 use crate::items::{items, Item};
 use crate::sector::{free, sequence, state, State, SECTOR_BYTES};
+use crate::slip::{slipped, Slip};
 use crate::steps::sector_of;
 
 #[derive(Clone, Copy, PartialEq, Eq, Debug)]
@@ -53,6 +54,9 @@ pub struct Found {
 impl Found {
     /// "Newer means greater (sequence, entry), then later in the list."
     pub fn newness(&self) -> (u32, usize, usize) {
+        if slipped(Slip::EarlierInListIsNewer) {
+            return (self.sequence, self.item.entry, usize::MAX - self.place_in_list);
+        }
         (self.sequence, self.item.entry, self.place_in_list)
     }
 
@@ -66,6 +70,9 @@ impl Found {
 pub fn found(image: &[u8], pages: &[Page]) -> Vec<Found> {
     let mut all = Vec::new();
     for (place_in_list, page) in pages.iter().enumerate() {
+        if slipped(Slip::LeftSourceNotJudged) && page.state == State::Freeing {
+            continue;
+        }
         for item in items(sector_of(image, page.sector)) {
             all.push(Found { sector: page.sector, sequence: page.sequence, place_in_list, item });
         }

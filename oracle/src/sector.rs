@@ -1,6 +1,8 @@
 //! Sector layout and page states.
 
 use crate::crc::crc;
+use crate::other_way;
+use crate::slip::{slipped, Slip};
 
 pub const SECTOR_BYTES: usize = 4096;
 pub const ENTRIES: usize = 126;
@@ -53,6 +55,9 @@ pub fn version(sector: &[u8]) -> u8 {
 }
 
 pub fn header_crc_right(sector: &[u8]) -> bool {
+    if slipped(Slip::HeaderRestTested) && sector[9..28].iter().any(|&byte| byte != 0xFF) {
+        return false;
+    }
     number(sector, 28) == crc(&sector[4..28])
 }
 
@@ -73,7 +78,7 @@ pub fn version_known(sector: &[u8]) -> bool {
 
 /// "All bytes 0xFF: Blank."
 pub fn blank(sector: &[u8]) -> bool {
-    sector.iter().all(|&byte| byte == 0xFF)
+    sector.iter().all(|&byte| byte == 0xFF) || other_way::blank(sector)
 }
 
 /// "All bytes 0xFF: Blank. State one of the three words, version 0xFE or 0xFF, header CRC right: that
@@ -127,8 +132,9 @@ pub fn record(sector: &[u8]) -> Record {
     if free(state) {
         return Record { state, sequence: 0, written: 0, erased: 0, empty: 0, illegal: 0 };
     }
+    let says_full = slipped(Slip::LeftSourceRecordedFull) && state == State::Freeing;
     Record {
-        state,
+        state: if says_full { State::Full } else { state },
         sequence: sequence(sector),
         written: total(sector, EntryState::Written),
         erased: total(sector, EntryState::Erased),

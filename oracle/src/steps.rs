@@ -4,10 +4,12 @@ use std::collections::{BTreeMap, BTreeSet};
 
 use crate::branch::Branch;
 use crate::items::{items, Item};
+use crate::other_way;
 use crate::sector::{
     blank, number, page_header, EntryState, ACTIVE_WORD, ENTRIES, ENTRY_BYTES, FREEING_WORD, FULL_WORD,
     SECTOR_BYTES,
 };
+use crate::slip::{slipped, Slip};
 
 const WORD_BYTES: usize = 4;
 const HEADER_WORDS: usize = 8;
@@ -61,7 +63,7 @@ pub fn sector_of_mut(image: &mut [u8], sector: usize) -> &mut [u8] {
 
 /// "each entry-state word that covers its entries", ascending: the word's number and a value that has
 /// `state` in the pairs of those entries and ones elsewhere.
-fn state_words(entry: usize, span: usize, state: EntryState) -> Vec<(usize, u32)> {
+pub fn state_words(entry: usize, span: usize, state: EntryState) -> Vec<(usize, u32)> {
     let first = entry / PAIRS_OF_WORD;
     let last = (entry + span - 1) / PAIRS_OF_WORD;
     let value_of = |word: usize| {
@@ -121,6 +123,9 @@ impl Run {
     }
 
     fn program(&mut self, sector: usize, word: usize, value: u32) {
+        if slipped(Slip::WordsOfOnesSkipped) && value == u32::MAX {
+            return;
+        }
         self.step(Step::Program { sector, word, value });
     }
 
@@ -156,15 +161,21 @@ impl Run {
     /// "An item is copied into a part of the target sector that starts at the next entry. All its words,
     /// ascending; then each entry-state word that covers its entries, ascending, set Written. If entry 125
     /// is now used, program the state Full."
-    fn copy_item(&mut self, source: usize, item: &Item, target: usize, next: usize) {
+    pub fn copy_item(&mut self, source: usize, item: &Item, target: usize, next: usize) {
         let words = WORDS_OF_ENTRY * item.span();
         let from = FIRST_ENTRY_WORD + WORDS_OF_ENTRY * item.entry;
         let to = FIRST_ENTRY_WORD + WORDS_OF_ENTRY * next;
-        for word in 0..words {
-            let value = number(self.sector(source), WORD_BYTES * (from + word));
-            self.program(target, to + word, value);
+        let value_of = |word: usize| number(self.sector(source), WORD_BYTES * (from + word));
+        let bytes: Vec<(usize, u32)> = (0..words).map(|word| (to + word, value_of(word))).collect();
+        let mut states = state_words(next, item.span(), EntryState::Written);
+        if slipped(Slip::CopyKeepsPayloadStates) {
+            states = other_way::state_words_of_source(self.sector(source), item, next);
         }
-        for (word, value) in state_words(next, item.span(), EntryState::Written) {
+        if slipped(Slip::CopyStatesDescending) {
+            states.reverse();
+        }
+        let states_first = slipped(Slip::CopyStatesBeforeBytes);
+        for (word, value) in if states_first { [states, bytes] } else { [bytes, states] }.concat() {
             self.program(target, word, value);
         }
         if next + item.span() == ENTRIES {
@@ -187,9 +198,12 @@ impl Run {
     /// "Erase an item: the state words covering its span, descending, set Erased, so the header's word is
     /// last."
     pub fn erase_entries(&mut self, sector: usize, entry: usize, span: usize) {
-        let words = state_words(entry, span, EntryState::Erased);
+        let mut words = state_words(entry, span, EntryState::Erased);
         self.met_if(words.len() > 1, Branch::EraseOverSeveralWords);
-        for (word, value) in words.into_iter().rev() {
+        if !slipped(Slip::ErasureStatesAscending) {
+            words.reverse();
+        }
+        for (word, value) in words {
             self.program(sector, word, value);
         }
     }

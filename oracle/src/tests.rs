@@ -9,6 +9,7 @@ use crate::crc::crc;
 use crate::generate::case_of;
 use crate::items::{items, start_of_byte, walk, Met};
 use crate::listing::listing;
+use crate::mutants::{catches, files_of_gate, recorded};
 use crate::named::two_freeing_pages;
 use crate::named::{active_non_copy_beside_freeing, equal_sequences, listing_example, number_item, page};
 use crate::protocol::Operation;
@@ -17,6 +18,7 @@ use crate::recover::recover;
 use crate::sample::own_branches;
 use crate::scan::Page;
 use crate::sector::{entry_state, state, EntryState, State, FREEING_WORD, FULL_WORD};
+use crate::slip::Slip;
 use crate::steps::{apply, sector_of, Stage, Step};
 use crate::writing::{blank_sector, set_entry, set_entry_state, Fields};
 
@@ -192,4 +194,13 @@ fn the_recorded_sample_meets_every_branch() {
         }
     }
     assert_eq!(unmet, BTreeSet::new());
+}
+
+/// Each slip gives another answer than the recorded one in some case that the gate runs.
+#[test]
+fn the_recorded_cases_catch_every_slip() {
+    let cases = recorded(&files_of_gate()).expect("readable files with the model's answers");
+    let catches = catches(cases.into_iter());
+    let uncaught = Slip::ALL.iter().zip(&catches).filter(|(_, catch)| catch.count == 0);
+    assert_eq!(uncaught.map(|(slip, _)| *slip).collect::<Vec<Slip>>(), []);
 }

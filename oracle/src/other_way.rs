@@ -1,0 +1,151 @@
+//! What a slip does where the rule's own line cannot say it. No rule needs anything of this.
+
+use std::cmp::Reverse;
+use std::collections::{BTreeMap, BTreeSet};
+
+use crate::blobs::{sound_pairs, Version, Versions};
+use crate::finish::{erase_source, is_copy};
+use crate::items::{items, walk, Item, Key, Met};
+use crate::recover::stages;
+use crate::scan::{scan, Found, Lists, Page};
+use crate::sector::{entry_state, number, state, total, EntryState, State, ENTRIES};
+use crate::slip::{slipped, Slip};
+use crate::steps::{state_words, Run, Stage, Step};
+
+/// Blank by less than all bytes; not without these slips.
+pub fn blank(sector: &[u8]) -> bool {
+    let ones = |bytes: &[u8]| bytes.iter().all(|&byte| byte == 0xFF);
+    let but_for_pairs = || ones(&sector[..63]) && ones(&[sector[63] | 0xF0]) && ones(&sector[64..]);
+    slipped(Slip::BlankByStateWord) && number(sector, 0) == u32::MAX
+        || slipped(Slip::BlankWithoutLastPairs) && but_for_pairs()
+}
+
+/// Zero bytes from the first zero byte on.
+pub fn key_up_to_zero(mut key: Key) -> Key {
+    let end = key.iter().position(|&byte| byte == 0).unwrap_or(key.len());
+    key[end..].fill(0);
+    key
+}
+
+/// State words that give each entry of a copied span the state that it had on the source.
+pub fn state_words_of_source(source: &[u8], item: &Item, next: usize) -> Vec<(usize, u32)> {
+    let mut words = BTreeMap::new();
+    for place in 0..item.span() {
+        let state = entry_state(source, item.entry + place);
+        for (word, value) in state_words(next + place, 1, state) {
+            *words.entry(word).or_insert(u32::MAX) &= value;
+        }
+    }
+    words.into_iter().collect()
+}
+
+/// The first Active page that is a copy of the source, else the first Active page.
+pub fn any_copy(run: &Run, pages: &[Page], source: &Page) -> Option<usize> {
+    let on = |page: &Page| items(run.sector(page.sector));
+    let active = |page: &Page| page.state == State::Active;
+    let copy = pages.iter().position(|page| active(page) && is_copy(&on(page), &on(source)));
+    copy.or(pages.iter().position(active))
+}
+
+/// Copies the source's items that a copy lacks behind those that it has. The answer: whether there is one.
+pub fn resume_copy(run: &mut Run, lists: &mut Lists, source: &Page) -> bool {
+    let Some(active) = lists.pages.iter_mut().find(|page| page.state == State::Active) else {
+        return false;
+    };
+    let target = active.sector;
+    let (there, wanted) = (items(run.sector(target)), items(run.sector(source.sector)));
+    if !is_copy(&there, &wanted) {
+        return false;
+    }
+    let mut next = there.last().map_or(0, |item| item.entry + item.span());
+    for item in wanted.iter().skip(there.len()) {
+        if next + item.span() <= ENTRIES {
+            run.copy_item(source.sector, item, target, next);
+            next += item.span();
+        }
+    }
+    active.state = state(run.sector(target));
+    erase_source(run, lists, *source);
+    true
+}
+
+/// Both lists anew, but that a source which counts as Full still does.
+pub fn scan_again(run: &Run, lists: &mut Lists) {
+    let full: Vec<usize> =
+        lists.pages.iter().filter(|page| page.state == State::Full).map(|page| page.sector).collect();
+    *lists = scan(&run.image);
+    for page in lists.pages.iter_mut().filter(|page| full.contains(&page.sector)) {
+        page.state = State::Full;
+    }
+}
+
+pub fn finish_made_a_step(run: &Run) -> bool {
+    run.list.iter().any(|tagged| matches!(tagged.stage, Stage::Finish { .. }))
+}
+
+/// Whether recovery would initialise a page.
+pub fn takes_sequence(run: &Run) -> bool {
+    let mut run = run.clone();
+    stages(&mut run);
+    run.list.iter().any(|tagged| matches!(tagged.step, Step::Program { word: 1, .. }))
+}
+
+pub fn distinct_chunks(version: &Version) -> usize {
+    version.chunks.iter().map(|chunk| chunk.item.chunk_index()).collect::<BTreeSet<u8>>().len()
+}
+
+/// The older of two by the oldest index of each, or the one whose sector comes later.
+pub fn sort_pair(pair: &mut [&Version; 2]) {
+    let oldest = |version: &Version| version.indices.iter().map(|index| index.newness()).min();
+    let sector = |version: &Version| version.index().map(|index| (Reverse(index.sector), index.newness()));
+    if slipped(Slip::OlderByOldestIndex) {
+        pair.sort_by_key(|version| oldest(version));
+    }
+    if slipped(Slip::BlobOfFirstSectorKept) {
+        pair.sort_by_key(|version| sector(version));
+    }
+}
+
+/// All that stage 3 is to erase, by the key before the start or with the older of two among the others.
+pub fn erase_in_other_order(run: &mut Run, sound: &Versions, unsound: &Versions) {
+    let mut first: Vec<&Version> = unsound.values().collect();
+    let mut second: Vec<&Version> = sound_pairs(sound).into_iter().map(|[older, _]| older).collect();
+    if slipped(Slip::OlderOfTwoInOnePass) {
+        first.append(&mut second);
+    }
+    first.sort_by_key(|version| {
+        let item = version.indices.iter().chain(&version.chunks).next().expect("a version has a part").item;
+        let start = if slipped(Slip::KeyBeforeStart) { 0 } else { item.start() };
+        (item.namespace(), start, item.key(), item.start())
+    });
+    first.iter().chain(&second).for_each(|version| version.erase(run));
+}
+
+/// Of some items those whose header is still Written.
+pub fn still_written(run: &Run, found: &[Found]) -> Vec<Found> {
+    let written = |of: &&Found| entry_state(run.sector(of.sector), of.item.entry) == EntryState::Written;
+    found.iter().filter(written).copied().collect()
+}
+
+/// A group of namespace and key parted by type or by chunk index; as it is without these slips.
+pub fn parted(group: Vec<&Found>) -> Vec<Vec<&Found>> {
+    let mut parts: BTreeMap<(u8, u8), Vec<&Found>> = BTreeMap::new();
+    for found in group {
+        let kind = if slipped(Slip::GroupedByType) { found.item.kind() } else { 0 };
+        let index = if slipped(Slip::GroupedByChunkIndex) { found.item.chunk_index() } else { 0 };
+        parts.entry((kind, index)).or_default().push(found);
+    }
+    parts.into_values().collect()
+}
+
+/// Entries that count as Erased in the points, besides those that are; 0 without these slips.
+pub fn taken_for_erased(sector: &[u8]) -> u32 {
+    if slipped(Slip::IllegalCountsAsErased) {
+        return total(sector, EntryState::Illegal);
+    }
+    if slipped(Slip::UnreadableCountsAsErased) {
+        let readable = |met: &Met| matches!(met, Met::Item(_) | Met::NotWritten(_));
+        return walk(sector).iter().filter(|met| !readable(met)).count() as u32;
+    }
+    0
+}

@@ -1,0 +1,98 @@
+//! Slips and other readings of document 01, each of which can be switched on in the model to see whether the
+//! recorded cases catch it. The rules ask `slipped(..)` where one of them would go another way; nothing else
+//! depends on it.
+
+use std::cell::Cell;
+
+macro_rules! slips {
+    ($($name:ident $source:literal $text:literal,)*) => {
+        #[derive(Clone, Copy, PartialEq, Eq, Debug)]
+        pub enum Slip { $($name,)* }
+
+        impl Slip {
+            pub const ALL: &'static [Slip] = &[$(Slip::$name,)*];
+
+            /// The reading of docs/DECISIONS.md that it goes against, or document 01's list of slips.
+            pub fn source(self) -> &'static str {
+                match self { $(Slip::$name => $source,)* }
+            }
+
+            pub fn text(self) -> &'static str {
+                match self { $(Slip::$name => $text,)* }
+            }
+        }
+    };
+}
+
+slips! {
+    CopyStatesBeforeBytes "slip" "a copy's entry states are marked before its bytes",
+    CopyStatesDescending "slip" "a copy's entry states are marked from the highest down",
+    ErasureStatesAscending "slip" "an erasure's entry states are marked from the lowest up",
+    BlobsBeforeFinish "slip" "blobs are judged before the finish stage",
+    PartialCopyResumed "slip" "a partial copy is resumed in place",
+    BlobOfFirstSectorKept "slip" "the older blob is kept because its sector comes first",
+    BlankByStateWord "R3" "a state word of all ones is enough for Blank",
+    BlankWithoutLastPairs "R3" "the two pairs past entry 125 do not count for Blank",
+    HeaderRestTested "R3" "header bytes 9-27 have to be 0xFF as well",
+    KeyEndsAtZeroByte "R7" "a key ends at its first zero byte",
+    WordsOfOnesSkipped "R10" "words of all ones are not programmed",
+    CopyKeepsPayloadStates "R11" "a copy takes over the payload's entry states",
+    MarkedInOldOrder "R15" "other Active pages are marked in the order before the change of places",
+    ChangeOfPlacesForgotten "R16" "later stages go by sectors ascending again",
+    ScanBetweenRounds "R17" "the finish stage scans again after each round",
+    EveryActiveJudged "R18" "any Active page may be the copy, not the first alone",
+    Namespace0NotCompared "R18" "items of namespace 0 do not count in the finish stage",
+    ActiveWithoutItemsKept "R19" "an Active page without items is no copy",
+    NewestAskedAfterCopy "R20" "the newest page is asked also once the copy was erased",
+    EqualSequenceIsNewer "R21" "a page of the source's sequence is newer than the source",
+    ErasedCopyCounts "R22" "the erased copy counts for the greatest sequence",
+    NoFreeJudgedBeforeErasure "R23" "no free sector: judged before the copy was erased",
+    ErasedJoinsInOrder "R23" "an erased sector joins the free list in sector order",
+    FinishTakesFirstFree "R23" "the finish stage takes the first free sector",
+    NoOrderWithoutStep "R24" "no second scan and stage 1 where the finish stage made no step",
+    LeftSourceNotJudged "R24" "a source left Freeing takes no part in stages 3 and 4",
+    LeftSourceRecordedFull "R24" "the record of a source left Freeing says full",
+    Namespace0BlobsKept "R25" "blobs of namespace 0 are not judged",
+    OlderIndicesErased "R26" "all indices of an unsound version are erased",
+    LastIndexCounts "R26" "the last index in the list counts, not the newest",
+    IndexErasedByItsSpan "R27" "stage 3 erases an index by its whole span",
+    IndexAloneIsUnsound "R28" "an index without chunks is not sound",
+    DistinctChunksCounted "R28" "distinct chunk indices are counted, not chunks",
+    SizesWrapAt16Bits "R28" "summed chunk sizes wrap at 16 bits",
+    KeyBeforeStart "R29" "versions ascend by (namespace, key, start)",
+    OlderOfTwoInOnePass "R29" "the older of two is erased in the same pass as the others",
+    OlderByOldestIndex "R29" "the older of two goes by each version's oldest index",
+    NotWalkedAnew "R30" "stage 4 judges by what is left of stage 3's items",
+    GroupedByType "R30" "groups are told by the type as well",
+    GroupedByChunkIndex "R30" "groups are told by the chunk index byte as well",
+    OldIndexErasedByOneEntry "R31" "stage 4 erases one entry of an old blob index",
+    ChunksAfterAllOld "R31" "an old index's chunks are erased after all old items of the group",
+    SameStartByByte "R31" "the same start is judged by the byte",
+    FilledPageMarkedByBlobs "R32" "stage 3 marks the page whose last Empty entry it took",
+    EarlierInListIsNewer "R33" "among equal (sequence, entry) the earlier in the list is newer",
+    ReclaimTakesFirstFree "R34" "reclaim takes the first free sector",
+    FreeingNotMarkedAgain "R34" "reclaim does not mark a Freeing page again",
+    FreeingNotChosen "R34" "reclaim does not choose a Freeing page",
+    IllegalCountsAsErased "R35" "Illegal entries count as Erased in the points",
+    UnreadableCountsAsErased "R35" "unreadable Written entries count as Erased in the points",
+    NextWraps "R35" "next wraps at 2^32 in the points",
+    RefusedWhereSequenceNeeded "R38" "recovery's result 6 only where a new sequence would be taken",
+    CopyErasureNamesCopy "R39" "a stop at the copy's erasure names the copy's sector, not the source's",
+}
+
+thread_local! {
+    static SWITCHED_ON: Cell<Option<Slip>> = const { Cell::new(None) };
+}
+
+/// Whether this slip is switched on.
+pub fn slipped(slip: Slip) -> bool {
+    SWITCHED_ON.get() == Some(slip)
+}
+
+/// What `answer` gives with this slip switched on.
+pub fn with_slip<T>(slip: Slip, answer: impl FnOnce() -> T) -> T {
+    SWITCHED_ON.set(Some(slip));
+    let given = answer();
+    SWITCHED_ON.set(None);
+    given
+}
