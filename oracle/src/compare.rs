@@ -59,7 +59,7 @@ pub fn decode_all(mut input: &[u8]) -> io::Result<Vec<Case>> {
 }
 
 /// The same error, with the name of what it is about.
-fn about<'a>(name: &'a str) -> impl Fn(io::Error) -> io::Error + 'a {
+pub fn about<'a>(name: &'a str) -> impl Fn(io::Error) -> io::Error + 'a {
     move |error| io::Error::new(error.kind(), format!("{name}: {error}"))
 }
 

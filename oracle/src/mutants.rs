@@ -4,7 +4,7 @@
 use std::fs;
 use std::io::{self, ErrorKind};
 
-use crate::compare::decode_all;
+use crate::compare::{about, decode_all};
 use crate::generate::case_of;
 use crate::protocol::{answer, Case, Operation};
 use crate::slip::{with_slip, Slip};
@@ -39,8 +39,8 @@ pub fn catches(cases: impl Iterator<Item = Case>) -> Vec<Catch> {
 pub fn recorded(files: &[(String, String)]) -> io::Result<Vec<Case>> {
     let (mut all, mut answers) = (Vec::new(), Vec::new());
     for (input, output) in files {
-        all.extend(decode_all(&fs::read(input)?)?);
-        answers.extend(fs::read(output)?);
+        all.extend(decode_all(&fs::read(input).map_err(about(input))?)?);
+        answers.extend(fs::read(output).map_err(about(output))?);
     }
     if all.iter().flat_map(answer).ne(answers) {
         return Err(io::Error::new(ErrorKind::InvalidData, "the recorded answers are not the model's"));
