@@ -156,7 +156,7 @@ impl Run {
     /// "An item is copied into a part of the target sector that starts at the next entry. All its words,
     /// ascending; then each entry-state word that covers its entries, ascending, set Written. If entry 125
     /// is now used, program the state Full."
-    fn copy_item(&mut self, source: usize, item: &Item, target: usize, next: usize) {
+    pub fn copy_item(&mut self, source: usize, item: &Item, target: usize, next: usize) {
         let words = WORDS_OF_ENTRY * item.span();
         let from = FIRST_ENTRY_WORD + WORDS_OF_ENTRY * item.entry;
         let to = FIRST_ENTRY_WORD + WORDS_OF_ENTRY * next;
