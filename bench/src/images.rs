@@ -120,6 +120,41 @@ pub fn settled_16() -> Vec<u8> {
     image(pages, 0)
 }
 
+/// Three Full pages and an Active one: 475 one-entry items, a quarter of those of `settled_16`.
+pub fn settled_475() -> Vec<u8> {
+    let mut pages: Vec<Page> = (1..4).map(full).collect();
+    pages.push(Page::new(ACTIVE, 4).numbers_to(97));
+    image(pages, 0)
+}
+
+/// Seven Full pages and seven newer ones with the same keys, an Active page and a blank sector: 882 items are there twice.
+pub fn doubled() -> Vec<u8> {
+    let mut pages: Vec<Page> = (1..8).map(full).collect();
+    for sequence in 8..15 {
+        let mut page = Page::new(FULL, sequence);
+        page.key = (sequence as usize - 7) * 1000;
+        pages.push(page.numbers_to(ENTRIES));
+    }
+    pages.push(Page::new(ACTIVE, 15).numbers_to(10));
+    image(pages, 1)
+}
+
+/// 15 Full pages of blobs, each with a size that its chunk does not have: 465 versions to judge and to erase.
+pub fn unsound() -> Vec<u8> {
+    let payload = [0x55u8; 60];
+    let mut pages = Vec::new();
+    for sequence in 1..16 {
+        let mut page = Page::new(FULL, sequence);
+        while page.next + 4 <= ENTRIES {
+            page.key += 1;
+            page.item(CHUNK, 0, sized(&payload), &payload);
+            page.item(INDEX, 0xFF, [61, 0, 0, 0, 1, 0, 0xFF, 0xFF], &[]);
+        }
+        pages.push(page);
+    }
+    image(pages, 1)
+}
+
 /// Three Full pages and a blank sector: 378 one-entry items.
 pub fn settled_4() -> Vec<u8> {
     image((1..4).map(full).collect(), 1)

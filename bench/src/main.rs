@@ -3,7 +3,7 @@ mod crc;
 mod images;
 
 use crc::{crc, entry_crc, header_crc};
-use images::{items, sector, settled_16, settled_4, settled_mixed, to_reclaim, SECTOR};
+use images::{doubled, items, sector, settled_16, settled_4, settled_475, settled_mixed, to_reclaim, unsound, SECTOR};
 use std::hint::black_box;
 use std::time::Instant;
 
@@ -11,12 +11,17 @@ extern "C" {
     fn timing_walk(sector: *const u8, length: usize) -> usize;
     fn timing_reader(sector: *const u8, length: usize) -> usize;
     fn timing_reclaim(image: *mut u8, length: usize, allowance: u64) -> u64;
+    fn timing_recover(image: *mut u8, length: usize, allowance: u64) -> u64;
 }
 
 type Call = fn(&mut [u8]) -> u64;
 
 fn reclaim(image: &mut [u8]) -> u64 {
     unsafe { timing_reclaim(image.as_mut_ptr(), image.len(), u64::MAX) }
+}
+
+fn recover(image: &mut [u8]) -> u64 {
+    unsafe { timing_recover(image.as_mut_ptr(), image.len(), u64::MAX) }
 }
 
 #[cfg(with_crate)]
@@ -170,15 +175,23 @@ fn time_reclaims() {
     }
 }
 
-/// The proved recovery joins here once its call stands.
 fn time_recoveries() {
     for (what, image) in [
         ("recovery: clean, 16 sectors, 1,900 items", settled_16()),
+        ("recovery: clean, 4 sectors, 475 items", settled_475()),
         ("recovery: clean, 4 sectors, 378 items", settled_4()),
         ("recovery: clean, 16 sectors, mixed", settled_mixed()),
     ] {
         let limit = || headers_of(&image) ^ entries_of(&image);
-        time_calls(what, &image, limit, None, of_crate::RECOVER);
+        time_calls(what, &image, limit, Some(recover), of_crate::RECOVER);
+    }
+    // the slow path: the crate's rules differ on these, so it is not run beside
+    for (what, image) in [
+        ("recovery: 16 sectors, 882 items twice", doubled()),
+        ("recovery: 16 sectors, 465 unsound blobs", unsound()),
+    ] {
+        let limit = || headers_of(&image) ^ entries_of(&image);
+        time_calls(what, &image, limit, Some(recover), None);
     }
 }
 

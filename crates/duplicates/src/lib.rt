@@ -4,3 +4,4 @@ mod old;
 mod stage;
 
 pub use stage::duplicate_stage;
+pub use stage::make_last_marks;

@@ -61,7 +61,7 @@ fn empty_in(image: &[u8], sector: usize) -> u32
 }
 
 // An Active page that now has no Empty entry is marked Full.
-fn make_last_marks(image: &mut [u8], table: Table, allowed: u64) -> Ran
+pub fn make_last_marks(image: &mut [u8], table: Table, allowed: u64) -> Ran
     requires { ⌜ Sized table × PagesPlaced (sectorsOf (now image)) (listed table) (freed table) ⌝ }
     ensures { λ r. ⌜ Did (lastMarks (listed table) (now (image .entry))) allowed (now (image .entry)) (now (image .exit)) r ⌝ }
 {

@@ -1,3 +1,4 @@
 pub mod Tests
 pub mod Walking
 pub mod Placing
+pub mod Eight

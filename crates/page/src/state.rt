@@ -1,7 +1,8 @@
 // The state of a sector.
 ghost use mathlib.Core.Path.{_≡_};
 ghost use mathlib.Core.List.{[], _∷_};
-ghost use lib.ListN.{length};
+ghost use Prim.Native.Nat.{_≤_};
+ghost use lib.ListN.{length, drop};
 ghost use Rattle.crc.specs.Table.{crcTable};
 ghost use Rattle.page.specs.State.{allOnes, wordState, stateOf, isFree};
 
@@ -13,11 +14,12 @@ pub enum PageState {
     Freeing,
 }
 
-// Whether every byte is 0xFF.
-pub fn all_ones(s: &[u8]) -> bool
-    ensures { λ r. ⌜ r ≡ allOnes (now (s .entry)) ⌝ }
+// Whether every byte from `from` on is 0xFF.
+fn ones_from(s: &[u8], from: usize) -> bool
+    requires { ⌜ from ≤ length (now s) ⌝ }
+    ensures { λ r. ⌜ r ≡ allOnes (drop from (now (s .entry))) ⌝ }
 {
-    let mut i = 0;
+    let mut i = from;
     while i < s.len() {
         if s[i] != 0xFF {
             return false;
@@ -25,6 +27,21 @@ pub fn all_ones(s: &[u8]) -> bool
         i += 1;
     }
     true
+}
+
+// Whether every byte is 0xFF: eight at a time, since a blank sector is read to its end.
+pub fn all_ones(s: &[u8]) -> bool
+    ensures { λ r. ⌜ r ≡ allOnes (now (s .entry)) ⌝ }
+{
+    let mut i: usize = 0;
+    while 8 <= s.len() - i {
+        let w = word::le64(s, i);
+        if w != 0xFFFF_FFFF_FFFF_FFFF {
+            return false;
+        }
+        i += 8;
+    }
+    ones_from(s, i)
 }
 
 // The state that a state word, given by its bytes, lowest first, stands for.

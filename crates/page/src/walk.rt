@@ -6,7 +6,7 @@ ghost use mathlib.Core.List.{_++_, map};
 ghost use Prim.Native.Nat.{_+_, _<_, _≤_};
 ghost use lib.ListN.{length, take};
 ghost use Rattle.crc.specs.Table.{crcTable};
-ghost use Rattle.page.specs.Walk.{Laid, walk, readingOf};
+ghost use Rattle.page.specs.Walk.{Laid, isItem, walk, readingOf};
 
 // An item as its header tells it: where it stands, and what the 32 bytes say. `data_bytes` is the eight data bytes as a number, lowest first.
 pub struct ItemHeader {
@@ -24,44 +24,53 @@ pub enum Reading {
     Nothing,
 }
 
-// The item that begins at entry `i`, if one does. The CRC is last but for the span: it is what costs time.
-pub fn read_entry(t: &[u32; 324], s: &[u8], i: usize) -> Reading
+// Whether an item begins at entry `i`. The CRC is tested late: it is what costs time.
+fn is_item(t: &[u32; 324], s: &[u8], i: usize) -> bool
     requires { ⌜ (now t ≡ crcTable) × (length (now s) ≡ 4096) × (i < 126) ⌝ }
-    ensures { λ r. ⌜ r ≡ readingOf (now (s .entry)) i ⌝ }
+    ensures { λ r. ⌜ r ≡ isItem (now (s .entry)) i ⌝ }
 {
     let state = entry::entry_state(s, i);
     if state != 2 {
-        return Reading::Nothing;
+        return false;
     }
     let at = 64 + i * 32;
     let seen = word::le32(s, at + 4);
     let right = entry::entry_crc(t, s, at);
     if seen != right {
-        return Reading::Nothing;
+        return false;
     }
     let kind = entry::kind_of(s[at + 1]);
     if !entry::is_known(kind) {
-        return Reading::Nothing;
+        return false;
     }
     let span = word::size(s[at + 2]);
     if span == 0 {
+        return false;
+    }
+    i + span <= 126
+}
+
+// The item that begins at entry `i`, if one does.
+pub fn read_entry(t: &[u32; 324], s: &[u8], i: usize) -> Reading
+    requires { ⌜ (now t ≡ crcTable) × (length (now s) ≡ 4096) × (i < 126) ⌝ }
+    ensures { λ r. ⌜ r ≡ readingOf (now (s .entry)) i ⌝ }
+{
+    if !is_item(t, s, i) {
         return Reading::Nothing;
     }
-    if 126 < i + span {
-        return Reading::Nothing;
-    }
+    let at = 64 + i * 32;
     Reading::Item(ItemHeader {
         entry: i,
         namespace: s[at],
-        kind,
-        span,
+        kind: entry::kind_of(s[at + 1]),
+        span: word::size(s[at + 2]),
         chunk_index: s[at + 3],
         key: entry::key_at(s, at),
         data_bytes: word::le64(s, at + 24),
     })
 }
 
-// The entry numbers of the sector's items plus `base`, into `out` from `from` on: one walk, each entry read once. Answers where they end.
+// The entry numbers of the sector's items plus `base`, into `out` from `from` on: one walk, each entry read once and no header made. Answers where they end.
 pub fn places(t: &[u32; 324], s: &[u8], base: usize, out: &mut [u16], from: usize) -> usize
     requires { ⌜ (now t ≡ crcTable) × (length (now s) ≡ 4096) × (base + 126 ≤ 65536) × (from + 126 ≤ length (now out)) ⌝ }
     ensures { λ r. ⌜ (take r (now (out .exit)) ≡ take from (now (out .entry)) ++ map (λ (x : Laid). base + x .entry) (walk (now (s .entry)) 126 0)) × (r ≤ from + 126) ⌝ }
@@ -69,13 +78,13 @@ pub fn places(t: &[u32; 324], s: &[u8], base: usize, out: &mut [u16], from: usiz
     let mut k = from;
     let mut i: usize = 0;
     while i < 126 {
-        let Reading::Item(item) = read_entry(t, s, i) else {
+        if !is_item(t, s, i) {
             i += 1;
             continue;
-        };
+        }
         out[k] = (base + i) as u16;
         k += 1;
-        i += item.span;
+        i += word::size(s[64 + i * 32 + 2]);
     }
     k
 }

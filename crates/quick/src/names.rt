@@ -41,7 +41,6 @@ pub fn name_at(image: &[u8], place: usize) -> Rank
     }
 }
 
-// The key is compared first, as most often it decides.
 pub fn has_name(image: &[u8], place: usize, name: Rank) -> bool
     requires { ⌜ Placed (now image) place ⌝ }
     ensures { λ r. ⌜ r ≡ eqb (nameOf (itemAt (now (image .entry)) place .raw)) (rankNumber name) ⌝ }
@@ -69,17 +68,11 @@ pub fn chunk_name(v: Rank, n: u32) -> Rank
     }
 }
 
-fn long(w: u32) -> u64
-    ensures { λ r. ⌜ (r ≡ w) × (r < 0x1_0000_0000) ⌝ }
-{
-    w as u64
-}
-
 // The slot at which the search for a name begins: products of 32 bits each, so that none wraps.
 pub fn slot_of(name: Rank) -> usize
     ensures { λ r. ⌜ (r ≡ slotOf (rankNumber name)) × (r < 4096) ⌝ }
 {
-    let front = long(name.high);
+    let front = name.high as u64;
     let key = name.key;
     let both = key.high ^ key.low / 8;
     let high = both / 0x1_0000_0000 * 0x9E37_79B1;

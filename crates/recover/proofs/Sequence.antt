@@ -24,7 +24,9 @@ use Rattle.order.specs.Order.{ordering, ordered}
 use Rattle.finishing.specs.Finishing.{freeings, finishing}
 use Rattle.found.specs.Found.{found}
 use Rattle.blobs.specs.Blobs.{blobSteps}
-use Rattle.duplicates.specs.Duplicates.{duplicateStage}
+use Rattle.duplicates.specs.Duplicates.{lastMarks, duplicateStage}
+use Rattle.quick.specs.Calm.{Calm, tot}
+use Rattle.quick.proofs.Idle.{blob-idle, duplicate-idle}
 use Rattle.recover.specs.Recover.{lastStages, fromOrder, fromFinish, afterOrder, recovering}
 
 -- the steps of one stage, and then those that the rules give for what they left
@@ -50,6 +52,11 @@ module _ (ps : List Page) {n : ℕ} {l m : List ℕ} {r : Ran} (d : Did (blobSte
   pub blobs-on : {k : ℕ} {m′ : List ℕ} {w : Went} → r ≡ Done k → Made (tag Duplicates (duplicateStage ps m)) k m m′ w → Made (lastStages ps l) n l m′ w
   unfolding lastStages
   blobs-on e next = then-on Blobs repairs d e next
+
+-- where neither has anything to repair, the last marks are left
+pub calm-stages : (ps : List Page) (l : List ℕ) → Calm (λ (f : List ℕ → ℕ). tot f (found ps l)) → lastStages ps l ≡ tag Duplicates (lastMarks ps l)
+unfolding lastStages duplicateStage run tag
+calm-stages ps l calm = rw (blob-idle (found ps l) calm, duplicate-idle (found ps l) calm)
 
 pub one-stop : (x : Stage) {ss : List Step} {n : ℕ} {l m : List ℕ} {r : Ran} → Did ss n l m r → r ≡ Stopped → Made (tag x ss) n l m (Short x)
 one-stop x d e = made-tag-short x (rw e at d)

@@ -9,11 +9,13 @@ ghost use Prim.Native.Nat.{_+_, _≤_, _*_};
 ghost use lib.ListN.{length, take};
 ghost use Rattle.crc.specs.Table.{crcTable};
 ghost use Rattle.lists.specs.Lists.{greatest};
+ghost use Rattle.answer.specs.Staged.{tag};
 ghost use Rattle.answer.specs.Went.{Made};
 ghost use Rattle.table.specs.Table.{sectorsOf, pages, frees, sequence, listed, freed, Sized, Holds};
 ghost use Rattle.table.specs.Placed.{Placed};
 ghost use Rattle.found.specs.Found.{found};
 ghost use Rattle.found.specs.Places.{placeOf, Each, Lies};
+ghost use Rattle.duplicates.specs.Duplicates.{lastMarks};
 ghost use Rattle.finishing.specs.Finishing.{freeings};
 ghost use Rattle.recover.specs.Recover.{lastStages, fromOrder, fromFinish, recovering, tooHigh};
 ghost use mathlib.Core.Bool.{false};
@@ -43,14 +45,30 @@ fn repair(
     Went::Ended(rest)
 }
 
+// Where stages 3 and 4 have nothing to repair, the last marks are all that is left of them.
+fn close_full(image: &mut [u8], lists: Table, allowed: u64) -> Went
+    requires { ⌜ Sized lists × Placed (sectorsOf (now image)) (listed lists) (freed lists) ⌝ }
+    ensures { λ r. ⌜ Made (tag Stage.Duplicates (lastMarks (listed lists) (now (image .entry)))) allowed (now (image .entry)) (now (image .exit)) r ⌝ }
+{
+    let r = duplicates::make_last_marks(image, lists, allowed);
+    let Ran::Done(left) = r else {
+        return Went::Short(Stage::Duplicates);
+    };
+    Went::Ended(left)
+}
+
+// The quick test spares a clean store the stages' searches. It takes its slots from the array that stage 4 sorts in afterwards.
 fn last_stages(t: &[u32; 324], image: &mut [u8], lists: Table, allowed: u64) -> Went
     requires { ⌜ (now t ≡ crcTable) × Sized lists × Placed (sectorsOf (now image)) (listed lists) (freed lists) × Each (Lies (now image)) (listed lists) ⌝ }
     ensures { λ r. ⌜ Made (lastStages (listed lists) (now (image .entry))) allowed (now (image .entry)) (now (image .exit)) r ⌝ }
 {
     let mut places = [0u16; 2016];
-    let mut sorted = [0u16; 2016];
+    let mut slots = [0u16; 4096];
     let n = found::gather(t, image, lists, &mut places);
-    repair(t, image, lists, &mut places, n, &mut sorted, allowed)
+    if quick::is_calm(image, &places[..n], &mut slots) {
+        return close_full(image, lists, allowed);
+    }
+    repair(t, image, lists, &mut places, n, &mut slots, allowed)
 }
 
 // Stage 1 on the lists as they were scanned, then stages 3 and 4.

@@ -37,3 +37,10 @@ pub extern "C" fn timing_reader(sector: &[u8]) -> usize {
 pub extern "C" fn timing_reclaim(image: &mut [u8], allowance: u64) -> u64 {
     answer::steps(reclaim::reclaim(image, allowance))
 }
+
+// How many steps one recovery of an image makes.
+#[no_mangle]
+pub extern "C" fn timing_recover(image: &mut [u8], allowance: u64) -> u64 {
+    let made = recover::recover_image(image, 16, allowance);
+    answer::steps(made.answer)
+}

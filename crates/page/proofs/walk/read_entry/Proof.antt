@@ -1,106 +1,37 @@
--- `page::read_entry` meets its contract: each test that led to a return decides the definition's, and a field of the entry is read at its place in the
--- sector. Assumes nothing.
-use mathlib.Core.Path.{_≡_, refl, sym, ap, _∙_}
-use mathlib.Core.Bool.{Bool, true, false, not}
-use Prim.Native.Nat.{ℕ, _+_, _*_, _<_, _≤_}
+-- `page::read_entry` meets its contract: a field of the entry is read at its place in the sector. Assumes nothing.
+use mathlib.Core.Path.{_≡_, sym, ap, _∙_}
+use mathlib.Core.Bool.{true, false}
+use Prim.Native.Nat.{ℕ, _+_, _*_}
 use native.Mathlib.Nat.{add-zero}
-use native.Mathlib.Omega.{arith}
-use borrow.Author.Tests.{eq-eqb, ne-eqb, le-leb, lt-leb}
 use lib.Dec.{lit<, lit≤}
 use lib.ListN.{getD}
-use Rattle.word.specs.Number.{part}
 use Rattle.word.proofs.Bytes.{part-byte, le-part}
-use Rattle.entry.specs.States.{stateAt}
-use Rattle.entry.specs.Kinds.{kindOf, known}
-use Rattle.entry.specs.Fields.{entryAt, crcIn, entryCrc, kindIn, spanOf}
+use Rattle.entry.specs.Kinds.{kindOf}
+use Rattle.entry.specs.Fields.{entryAt, kindIn, spanOf}
 use Rattle.page.proofs.Tests.{not-true, not-false}
-use Rattle.page.specs.Walk.{readingOf, isItem, rightHeader, headerOf}
+use Rattle.page.specs.Walk.{isItem, readingOf, headerOf}
 use borrow.Author.Needs.{needs}
 use Rattle.page.proofs.walk.read_entry.Statement.{statement}
 use Rattle.page.proofs.walk.read_entry.Tie as tie
 
 returns : tie.Need-returns
-unfolding readingOf isItem rightHeader
+unfolding readingOf
 returns c =
-    let k = c .before .before .before in
-    let s = k .args .s .now in
-    let i = k .args .i in
-    let h = entryAt s i in
-    let ne : stateAt s i ≡ 2 → ⊥ = λ e. c .if1 .taken (c .before .entry-state .ensures ∙ e) in
-    rw (ne-eqb _ _ ne)
+    let none : isItem (c .before .before .before .args .s .now) (c .before .before .before .args .i) ≡ false = sym (c .before .is-item .ensures) ∙ not-true (c .before .is-item .result) (c .if1 .taken) in
+    rw none
 
 returns-2 : tie.Need-returns-2
-unfolding readingOf isItem rightHeader
+unfolding readingOf headerOf
 returns-2 c =
-    let k = c .before .before .before .before .before .before in
-    let s = k .args .s .now in
-    let i = k .args .i in
+    let s = c .before .before .before .before .before .before .before .before .before .before .before .args .s .now in
+    let i = c .before .before .before .before .before .before .before .before .before .before .before .args .i in
     let h = entryAt s i in
-    let written : stateAt s i ≡ 2 = sym (c .before .before .before .before .entry-state .ensures) ∙ c .before .before .before .if1 .left in
-    let ne : crcIn h ≡ entryCrc h → ⊥ = λ e. c .if2 .taken (c .before .before .le32 .ensures ∙ sym (le-part s (64 + i * 32) 32 4 4 (lit≤ tt)) ∙ e ∙ sym (c .before .entry-crc .ensures)) in
-    rw (eq-eqb _ _ written, ne-eqb _ _ ne)
-
-returns-3 : tie.Need-returns-3
-unfolding readingOf isItem rightHeader
-returns-3 c =
-    let k = c .before .before .before .before .before .before .before .before .before .before in
-    let s = k .args .s .now in
-    let i = k .args .i in
-    let h = entryAt s i in
-    let written : stateAt s i ≡ 2 = sym (c .before .before .before .before .before .before .before .before .entry-state .ensures) ∙ c .before .before .before .before .before .before .before .if1 .left in
-    let right : crcIn h ≡ entryCrc h = le-part s (64 + i * 32) 32 4 4 (lit≤ tt) ∙ sym (c .before .before .before .before .before .before .le32 .ensures) ∙ c .before .before .before .before .if2 .left ∙ c .before .before .before .before .before .entry-crc .ensures in
-    let kind : kindIn h ≡ c .before .before .kind-of .result = ap kindOf (part-byte s (64 + i * 32) 32 1 (lit< tt)) ∙ sym (c .before .before .kind-of .ensures) in
-    let told : known (kindIn h) ≡ false = ap known kind ∙ sym (c .before .is-known .ensures) ∙ not-true (c .before .is-known .result) (c .if3 .taken) in
-    rw (eq-eqb _ _ written, eq-eqb _ _ right, told)
-
-returns-4 : tie.Need-returns-4
-unfolding readingOf isItem rightHeader
-returns-4 c =
-    let k = c .before .before .before .before .before .before .before .before .before .before .before .before .before in
-    let s = k .args .s .now in
-    let i = k .args .i in
-    let h = entryAt s i in
-    let written : stateAt s i ≡ 2 = sym (c .before .before .before .before .before .before .before .before .before .before .before .entry-state .ensures) ∙ c .before .before .before .before .before .before .before .before .before .before .if1 .left in
-    let right : crcIn h ≡ entryCrc h = le-part s (64 + i * 32) 32 4 4 (lit≤ tt) ∙ sym (c .before .before .before .before .before .before .before .before .before .le32 .ensures) ∙ c .before .before .before .before .before .before .before .if2 .left ∙ c .before .before .before .before .before .before .before .before .entry-crc .ensures in
+    let is : isItem s i ≡ true = sym (c .before .before .before .before .before .before .before .before .before .is-item .ensures) ∙ not-false (c .before .before .before .before .before .before .before .before .before .is-item .result) (c .before .before .before .before .before .before .before .before .if1 .left) in
     let kind : kindIn h ≡ c .before .before .before .before .before .kind-of .result = ap kindOf (part-byte s (64 + i * 32) 32 1 (lit< tt)) ∙ sym (c .before .before .before .before .before .kind-of .ensures) in
-    let told : known (kindIn h) ≡ true = ap known kind ∙ sym (c .before .before .before .before .is-known .ensures) ∙ not-false (c .before .before .before .before .is-known .result) (c .before .before .before .if3 .left) in
-    let span : spanOf h ≡ c .before .size .result = part-byte s (64 + i * 32) 32 2 (lit< tt) ∙ sym (c .before .size .ensures .0) in
-    let short : spanOf h < 1 = omega (arith, span) in
-    rw (eq-eqb _ _ written, eq-eqb _ _ right, told, lt-leb _ _ short)
-
-returns-5 : tie.Need-returns-5
-unfolding readingOf isItem rightHeader
-returns-5 c =
-    let k = c .before .before .before .before .before .before .before .before .before .before .before .before .before .before in
-    let s = k .args .s .now in
-    let i = k .args .i in
-    let h = entryAt s i in
-    let written : stateAt s i ≡ 2 = sym (c .before .before .before .before .before .before .before .before .before .before .before .before .entry-state .ensures) ∙ c .before .before .before .before .before .before .before .before .before .before .before .if1 .left in
-    let right : crcIn h ≡ entryCrc h = le-part s (64 + i * 32) 32 4 4 (lit≤ tt) ∙ sym (c .before .before .before .before .before .before .before .before .before .before .le32 .ensures) ∙ c .before .before .before .before .before .before .before .before .if2 .left ∙ c .before .before .before .before .before .before .before .before .before .entry-crc .ensures in
-    let kind : kindIn h ≡ c .before .before .before .before .before .before .kind-of .result = ap kindOf (part-byte s (64 + i * 32) 32 1 (lit< tt)) ∙ sym (c .before .before .before .before .before .before .kind-of .ensures) in
-    let told : known (kindIn h) ≡ true = ap known kind ∙ sym (c .before .before .before .before .before .is-known .ensures) ∙ not-false (c .before .before .before .before .before .is-known .result) (c .before .before .before .before .if3 .left) in
-    let span : spanOf h ≡ c .before .before .size .result = part-byte s (64 + i * 32) 32 2 (lit< tt) ∙ sym (c .before .before .size .ensures .0) in
-    let some : 1 ≤ spanOf h = omega (arith, span) in
-    let over : 126 < i + spanOf h = omega (arith, span) in
-    rw (eq-eqb _ _ written, eq-eqb _ _ right, told, le-leb _ _ some, lt-leb _ _ over)
-
-returns-6 : tie.Need-returns-6
-unfolding readingOf isItem rightHeader headerOf
-returns-6 c =
-    let k = c .before .before .before .before .before .before .before .before .before .before .before .before .before .before .before .before .before .before in
-    let s = k .args .s .now in
-    let i = k .args .i in
-    let h = entryAt s i in
-    let written : stateAt s i ≡ 2 = sym (c .before .before .before .before .before .before .before .before .before .before .before .before .before .before .before .before .entry-state .ensures) ∙ c .before .before .before .before .before .before .before .before .before .before .before .before .before .before .before .if1 .left in
-    let right : crcIn h ≡ entryCrc h = le-part s (64 + i * 32) 32 4 4 (lit≤ tt) ∙ sym (c .before .before .before .before .before .before .before .before .before .before .before .before .before .before .le32 .ensures) ∙ c .before .before .before .before .before .before .before .before .before .before .before .before .if2 .left ∙ c .before .before .before .before .before .before .before .before .before .before .before .before .before .entry-crc .ensures in
-    let kind : kindIn h ≡ c .before .before .before .before .before .before .before .before .before .before .kind-of .result = ap kindOf (part-byte s (64 + i * 32) 32 1 (lit< tt)) ∙ sym (c .before .before .before .before .before .before .before .before .before .before .kind-of .ensures) in
-    let told : known (kindIn h) ≡ true = ap known kind ∙ sym (c .before .before .before .before .before .before .before .before .before .is-known .ensures) ∙ not-false (c .before .before .before .before .before .before .before .before .before .is-known .result) (c .before .before .before .before .before .before .before .before .if3 .left) in
-    let span : spanOf h ≡ c .before .before .before .before .before .before .size .result = part-byte s (64 + i * 32) 32 2 (lit< tt) ∙ sym (c .before .before .before .before .before .before .size .ensures .0) in
-    let some : 1 ≤ spanOf h = omega (arith, span) in
-    let within : i + spanOf h ≤ 126 = omega (arith, span) in
+    let span : spanOf h ≡ c .before .before .before .size .result = part-byte s (64 + i * 32) 32 2 (lit< tt) ∙ sym (c .before .before .before .size .ensures .0) in
     let low : getD h 0 0 ≡ getD s (64 + i * 32) 0 = part-byte s (64 + i * 32) 32 0 (lit< tt) ∙ ap (λ (x : ℕ). getD s x 0) (add-zero (64 + i * 32)) in
     let third : getD h 3 0 ≡ getD s (64 + i * 32 + 3) 0 = part-byte s (64 + i * 32) 32 3 (lit< tt) in
-    rw (eq-eqb _ _ written, eq-eqb _ _ right, told, le-leb _ _ some, le-leb _ _ within, ← kind, ← span, low, third, c .before .key-at .ensures, c .le64 .ensures, le-part s (64 + i * 32) 32 24 8 (lit≤ tt))
+    rw (is, ← kind, ← span, low, third, c .before .key-at .ensures, c .le64 .ensures, le-part s (64 + i * 32) 32 24 8 (lit≤ tt))
 
 pub read-entry-spec : {M : Type 1} → statement M
 read-entry-spec =
@@ -111,24 +42,15 @@ read-entry-spec =
     (λ c. search needs)
     (λ c. search needs)
     (λ c. search needs)
-    (λ c κs. search needs)
-    (λ c κs. search needs)
-    returns-2
     (λ c. search needs)
     (λ c. search needs)
     (λ c κs. search needs)
-    (λ c κs. search needs)
-    returns-3
     (λ c. search needs)
     (λ c. search needs)
     (λ c κs. search needs)
-    returns-4
-    (λ c. search needs)
-    returns-5
-    (λ c. search needs)
     (λ c. search needs)
     (λ c. search needs)
     (λ c κs. search needs)
     (λ c. search needs)
     (λ c κs. search needs)
-    returns-6)
+    returns-2)
