@@ -41,8 +41,8 @@ impl Names {
 fn draw_span(random: &mut Random, room: usize) -> u8 {
     let span = match random.below(16) {
         0 => room,
-        1 => 1 + random.below(room),
-        2..=6 => 2 + random.below(5),
+        1 | 2 => 1 + random.below(room),
+        3..=7 => 2 + random.below(5),
         _ => 1,
     };
     span.min(room) as u8

@@ -86,9 +86,9 @@ impl Page {
 /// Mostly small, since the calls go with the square of the entries that are copied.
 fn draw_limit(random: &mut Random) -> usize {
     match random.below(48) {
-        0 | 1 => ENTRIES,
-        2..=5 => 40 + random.below(40),
-        6..=24 => 16 + random.below(24),
+        0..=2 => ENTRIES,
+        3..=6 => 40 + random.below(40),
+        7..=24 => 16 + random.below(24),
         _ => 2 + random.below(16),
     }
 }
@@ -153,7 +153,7 @@ fn draw_unreadable(random: &mut Random, names: &mut Names) -> Vec<Piece> {
 /// Fills the pages until some groups in a row find no room.
 fn lay_items(random: &mut Random, habits: &Habits, names: &mut Names, pages: &mut [Page]) {
     let mut refused = 0;
-    let at_most = random.choose(&[1, 2, 4, 8, 64, 1000]) * pages.len();
+    let at_most = random.choose(&[2, 4, 8, 64, 1000]) * pages.len();
     for _ in 0..at_most {
         let room = pages.iter().map(|page| page.limit.saturating_sub(page.next)).max().unwrap_or(0);
         if room == 0 || refused == 4 {
@@ -183,9 +183,9 @@ fn fill_up(random: &mut Random, names: &mut Names, pages: &mut [Page]) {
 fn draw_page(random: &mut Random, sequence: u32, limit: usize) -> Page {
     let sector = draw_draft(random, State::Full, sequence).sector;
     let mut page = Page { sector, next: 0, limit };
-    match random.below(24) {
+    match random.below(40) {
         0 => page.leave(ENTRIES, EntryState::Erased),
-        1 | 2 => page.limit = 0,
+        1..=3 => page.limit = 0,
         _ => {}
     }
     page
@@ -217,7 +217,7 @@ fn draw_free(random: &mut Random) -> Vec<u8> {
 
 pub fn draw_store(random: &mut Random) -> Vec<u8> {
     let sectors = draw_sector_count(random);
-    let free = if sectors == 2 || !random.once_in(3) { 1 } else { 1 + random.below(sectors - 1) };
+    let free = if sectors == 2 || random.once_in(2) { 1 } else { 1 + random.below(sectors - 1) };
     let mut store: Vec<Vec<u8>> =
         draw_pages(random, sectors - free).into_iter().map(|page| page.sector).collect();
     (0..free).for_each(|_| store.push(draw_free(random)));

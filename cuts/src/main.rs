@@ -60,13 +60,17 @@ struct Run {
     figures: Figures,
 }
 
-/// Writes what a failure leaves, so that it can be looked at.
+/// "reclaim 130, recovery 9, recovery 61": the steps of each call, the last one that at which it failed.
+fn cuts_as_text(cuts: &[u64]) -> String {
+    let names = std::iter::once("reclaim").chain(std::iter::repeat("recovery"));
+    let texts: Vec<String> = names.zip(cuts).map(|(name, steps)| format!("{name} {steps}")).collect();
+    texts.join(", ")
+}
+
+/// Prints a failure and writes what it leaves, so that it can be looked at.
 fn report(failure: &Failure, seed: u64, number: u64) -> std::io::Result<()> {
-    let (reclaim, recoveries) = failure.cuts.split_first().map_or((None, &[][..]), |(a, b)| (Some(a), b));
     println!("FAILURE: {}", failure.what);
-    println!(
-        "seed {seed}, store {number}, reclaim cut after {reclaim:?} steps, recoveries after {recoveries:?}"
-    );
+    println!("seed {seed}, store {number}, steps made: {}", cuts_as_text(&failure.cuts));
     let (store, image) = (format!("{seed}-{number}.store.img"), format!("{seed}-{number}.failure.img"));
     fs::write(&store, store_of(seed, number))?;
     fs::write(&image, &failure.image)?;
