@@ -17,6 +17,7 @@ use Rattle.answer.specs.declared.Stage.{Stage}
 use Rattle.answer.specs.declared.Went.{Went}
 use Rattle.answer.specs.declared.Went.the-variants.{Ended, Short}
 use Rattle.answer.specs.declared.Answer.the-variants.{Done as DoneAll, Stopped as StoppedAt}
+use Rattle.answer.specs.Answer.{numberOf}
 use Rattle.answer.specs.Staged.{Staged, tag, untag, left, stoppedAt, answerOf}
 use Rattle.answer.specs.Went.{wentTo, went, Made, Making, toldOf}
 use Rattle.answer.proofs.Tagged.{length-tag, left-none}
@@ -121,7 +122,7 @@ short-told n ts h = go n ts (n - length ts) n h
 
 -- ---- steps of one stage
 
-length-untag : (ts : List Staged) → length (untag ts) ≡ length ts
+pub length-untag : (ts : List Staged) → length (untag ts) ≡ length ts
 unfolding untag
 length-untag ts = length-map ts (λ (t : Staged). t .step)
 
@@ -201,3 +202,14 @@ told-is n ts = go (le-or-gt (length ts) n)
         let e : n - (n - length ts) ≡ length ts = omega arith in
         rw (went-le n ts h, left-none n ts h, take-all n ts h) (ap DoneAll e)
     go (inr h) = rw (length-take-le n ts (omega arith)) (short-told n ts h)
+
+-- a call that ended was allowed all its steps
+pub done-fits : (n : ℕ) (ts : List Staged) → numberOf (answerOf n ts) ≡ 0 → length ts ≤ n
+done-fits n ts e = go (le-or-gt (length ts) n)
+  where
+    go : (length ts ≤ n) ⊎ (n < length ts) → length ts ≤ n
+    go (inl h) = h
+    go (inr h) =
+        let q = went-short n ts h in
+        let z : _≡_ {A = ℕ} 7 0 = sym (ap (λ (v : Went). numberOf (toldOf v n)) (q .1)) ∙ ap numberOf (told-is n ts) ∙ e in
+        absurd (omega arith)

@@ -30,3 +30,4 @@ pub mod AllErased
 pub mod Reclaiming
 pub mod Demand3
 pub mod Cuts
+pub mod Calls

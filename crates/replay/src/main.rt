@@ -7,7 +7,7 @@
 //     op 2      the item reader of one sector: u8 result, u32 count, then each item's entry in 4 bytes and its 32 header bytes
 //     op 3      the listing: u32 length, the text
 //
-// Input that ends inside a case, a length above 131,072 and an op that is none end the run after the last whole case.
+// Input that ends inside a case, a length above 131,072, more than 32 records and an op that is none end the run after the last whole case.
 mod bytes;
 mod calls;
 mod items;

@@ -2,10 +2,10 @@
 use crate::bytes::put_byte;
 use crate::bytes::put_four;
 use crate::calls::write_call;
+use lent::Lent;
 use libc::STDOUT_FILENO;
 use page::PageRecord;
 use page::PageState;
-use records::Rows;
 ghost use Prim.Native.Nat.{_≤_};
 
 fn state_number(state: PageState) -> u8 {
@@ -18,10 +18,24 @@ fn state_number(state: PageState) -> u8 {
     }
 }
 
+// No page has so many entries: a record that a call leaves unchanged is told by it.
+fn unchanged() -> PageRecord {
+    PageRecord {
+        state: PageState::Blank,
+        sequence: 0xEEEE_EEEE,
+        written: 0xEEEE_EEEE,
+        erased: 0xEEEE_EEEE,
+        empty: 0xEEEE_EEEE,
+        illegal: 0xEEEE_EEEE,
+    }
+}
+
 fn write_record(r: PageRecord) -> bool {
     let state = r.state;
-    let mut out = [0u8; 21];
-    put_byte(&mut out, 0, state_number(state));
+    let mut out = [0xEEu8; 21];
+    if r.written != 0xEEEE_EEEE {
+        put_byte(&mut out, 0, state_number(state));
+    }
     put_four(&mut out, 1, r.sequence);
     put_four(&mut out, 5, r.written);
     put_four(&mut out, 9, r.erased);
@@ -30,25 +44,8 @@ fn write_record(r: PageRecord) -> bool {
     io::write_all(STDOUT_FILENO, &out)
 }
 
-// A record that the call left unchanged.
-fn write_unchanged() -> bool {
-    let out = [0xEEu8; 21];
-    io::write_all(STDOUT_FILENO, &out)
-}
-
-// Record number `i`: a row that was stored, or unchanged behind them.
-fn write_row(rows: Rows, i: usize) -> bool
-    requires { ⌜ rows .count ≤ 16 ⌝ }
-{
-    if i < rows.count {
-        let r = rows.rows[i];
-        return write_record(r);
-    }
-    write_unchanged()
-}
-
-fn write_records(rows: Rows, lent: usize) -> bool
-    requires { ⌜ rows .count ≤ 16 ⌝ }
+fn write_records(made: Lent, lent: usize) -> bool
+    requires { ⌜ lent ≤ 32 ⌝ }
 {
     let mut head = [0u8; 4];
     put_four(&mut head, 0, (lent % 65536) as u32);
@@ -57,7 +54,8 @@ fn write_records(rows: Rows, lent: usize) -> bool
     }
     let mut i: usize = 0;
     while i < lent {
-        if !write_row(rows, i) {
+        let r = made.records[i];
+        if !write_record(r) {
             return false;
         }
         i += 1;
@@ -66,10 +64,14 @@ fn write_records(rows: Rows, lent: usize) -> bool
 }
 
 pub fn answer_recover(image: &mut [u8], lent: usize, allowance: u64) -> bool {
-    let made = recover::recover_image(image, lent, allowance);
+    if 32 < lent {
+        return false;
+    }
+    let given = [unchanged(); 32];
+    let made = lent::recover_lent(image, given, lent, allowance);
     let answer = made.answer;
     if write_call(answer, image) {
-        write_records(made.rows, lent)
+        write_records(made, lent)
     } else {
         false
     }

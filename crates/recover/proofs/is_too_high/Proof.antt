@@ -6,22 +6,10 @@ use borrow.Author.Needs.{needs}
 use Rattle.recover.proofs.is_too_high.Statement.{statement}
 use Rattle.recover.proofs.is_too_high.Tie as tie
 
-count-freeing-requires : tie.Need-count-freeing-requires
-count-freeing-requires c κs = search needs
-
 returns : tie.Need-returns
 returns c =
     let a = c .before .before .args .lists in
     sym (none-freeing (listed a) (sym (c .before .count-freeing .ensures .0) ∙ c .if1 .taken))
-
-sub-result : tie.Need-sub-result
-sub-result c = search needs
-
-greatest-sequence-requires : tie.Need-greatest-sequence-requires
-greatest-sequence-requires c κs = search needs
-
-cast-result : tie.Need-cast-result
-cast-result c = search needs
 
 returns-2 : tie.Need-returns-2
 returns-2 c =
@@ -33,9 +21,9 @@ pub is-too-high-spec : {M : Type 1} → statement M
 is-too-high-spec =
     tie.close
     (tie.spec
-    count-freeing-requires
+    (λ c κs. search needs)
     returns
-    sub-result
-    greatest-sequence-requires
-    cast-result
+    (λ c. search needs)
+    (λ c κs. search needs)
+    (λ c. search needs)
     returns-2)

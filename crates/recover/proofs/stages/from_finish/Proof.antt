@@ -5,31 +5,10 @@ use borrow.Author.Needs.{needs}
 use Rattle.recover.proofs.stages.from_finish.Statement.{statement}
 use Rattle.recover.proofs.stages.from_finish.Tie as tie
 
-finish-all-requires : tie.Need-finish-all-requires
-finish-all-requires c κs = search needs
-
-enum-known-r : tie.Need-enum-known-r
-enum-known-r c = search needs
-
-enum-told : tie.Need-enum-told
-enum-told c = search needs
-
-same-length : tie.Need-same-length
-same-length c = search needs
-
 returns : tie.Need-returns
 returns c =
     let a = c .before .before .before .before .before .before .before in
     finish-stop (listed (a .args .lists)) (freed (a .args .lists)) (a .pre .3) (c .before .before .before .before .finish-all .ensures) (c .enum-told .given .1)
-
-scan-requires : tie.Need-scan-requires
-scan-requires c κs = search needs
-
-from-order-requires : tie.Need-from-order-requires
-from-order-requires c κs = search needs
-
-same-length-2 : tie.Need-same-length-2
-same-length-2 c = search needs
 
 returns-2 : tie.Need-returns-2
 returns-2 c =
@@ -40,12 +19,12 @@ pub from-finish-spec : {M : Type 1} → statement M
 from-finish-spec =
     tie.close
     (tie.spec
-    finish-all-requires
-    enum-known-r
-    enum-told
-    same-length
+    (λ c κs. search needs)
+    (λ c. search needs)
+    (λ c. search needs)
+    (λ c. search needs)
     returns
-    scan-requires
-    from-order-requires
-    same-length-2
+    (λ c κs. search needs)
+    (λ c κs. search needs)
+    (λ c. search needs)
     returns-2)

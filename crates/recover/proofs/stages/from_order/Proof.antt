@@ -9,31 +9,16 @@ use Rattle.recover.proofs.stages.from_order.Tie as tie
 make-order-requires : tie.Need-make-order-requires
 make-order-requires c κs = (c .before .before .pre .1 .sized, held-placed (c .before .before .args .image .now) (c .before .before .pre .2) (c .before .before .pre .1))
 
-enum-known-r : tie.Need-enum-known-r
-enum-known-r c = search needs
-
-enum-told : tie.Need-enum-told
-enum-told c = search needs
-
-same-length : tie.Need-same-length
-same-length c = search needs
-
 returns : tie.Need-returns
 returns c =
     let a = c .before .before .before .before .before .before .before in
     order-stop (pages (a .args .image .now)) (rw (a .pre .1 .list) at (c .before .before .before .before .make-order .ensures)) (c .enum-told .given .1)
-
-order-table-requires : tie.Need-order-table-requires
-order-table-requires c κs = search needs
 
 last-stages-requires : tie.Need-last-stages-requires
 last-stages-requires c κs =
     let a = c .before .before .before .before .before .before .before .before .before .before in
     let o = stage-1 (a .args .image .now) (a .pre .2) (a .pre .1) (c .before .before .before .before .before .before .before .make-order .ensures) (c .before .before .before .r .given .1) (c .order-table .ensures) in
     (a .pre .0, o .sized, o .placed, o .lies)
-
-same-length-2 : tie.Need-same-length-2
-same-length-2 c = search needs
 
 returns-2 : tie.Need-returns-2
 returns-2 c =
@@ -46,11 +31,11 @@ from-order-spec =
     tie.close
     (tie.spec
     make-order-requires
-    enum-known-r
-    enum-told
-    same-length
+    (λ c. search needs)
+    (λ c. search needs)
+    (λ c. search needs)
     returns
-    order-table-requires
+    (λ c κs. search needs)
     last-stages-requires
-    same-length-2
+    (λ c. search needs)
     returns-2)

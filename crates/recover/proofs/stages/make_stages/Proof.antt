@@ -10,34 +10,16 @@ use Rattle.recover.proofs.stages.make_stages.Tie as tie
 make-order-requires : tie.Need-make-order-requires
 make-order-requires c κs = (c .before .before .pre .1 .sized, held-placed (c .before .before .args .image .now) (c .before .before .pre .3) (c .before .before .pre .1))
 
-enum-known-r : tie.Need-enum-known-r
-enum-known-r c = search needs
-
-enum-told : tie.Need-enum-told
-enum-told c = search needs
-
-same-length : tie.Need-same-length
-same-length c = search needs
-
 returns : tie.Need-returns
 returns c =
     let a = c .before .before .before .before .before .before .before in
     all-stop (rw (a .pre .1 .list) at (c .before .before .before .before .make-order .ensures)) (c .enum-told .given .1)
-
-order-table-requires : tie.Need-order-table-requires
-order-table-requires c κs = search needs
-
-count-freeing-requires : tie.Need-count-freeing-requires
-count-freeing-requires c κs = search needs
 
 last-stages-requires : tie.Need-last-stages-requires
 last-stages-requires c κs =
     let a = c .before .before .before .before .before .before .before .before .before .before .before .before in
     let o = stage-1 (a .args .image .now) (a .pre .3) (a .pre .1) (c .before .before .before .before .before .before .before .before .before .make-order .ensures) (c .before .before .before .before .before .r .given .1) (c .before .before .before .order-table .ensures) in
     (a .pre .0, o .sized, o .placed, o .lies)
-
-same-length-2 : tie.Need-same-length-2
-same-length-2 c = search needs
 
 returns-2 : tie.Need-returns-2
 returns-2 c =
@@ -55,9 +37,6 @@ from-finish-requires c κs =
     let sequences = rw (← o .list) at (sequences-left l (a .pre .3) (a .pre .4) _ (n .0 ∙ ap freeings (o .list)) (c .before .if1 .left) (n .1)) in
     (a .pre .0, o .sized, o .placed, n .0, sequences, o .whole (a .pre .2), o .few)
 
-same-length-3 : tie.Need-same-length-3
-same-length-3 c = search needs
-
 returns-3 : tie.Need-returns-3
 returns-3 c =
     let a = c .before .before .before .before .before .before .before .before .before .before .before .before .before .before .before in
@@ -70,15 +49,15 @@ make-stages-spec =
     tie.close
     (tie.spec
     make-order-requires
-    enum-known-r
-    enum-told
-    same-length
+    (λ c. search needs)
+    (λ c. search needs)
+    (λ c. search needs)
     returns
-    order-table-requires
-    count-freeing-requires
+    (λ c κs. search needs)
+    (λ c κs. search needs)
     last-stages-requires
-    same-length-2
+    (λ c. search needs)
     returns-2
     from-finish-requires
-    same-length-3
+    (λ c. search needs)
     returns-3)

@@ -23,9 +23,6 @@ use Rattle.recover.proofs.stages.repair.Tie as tie
 on-found : (a : tie.Start) {n : ℕ} {m : List ℕ} {r : Ran} → let l = a .args .image .now in Did (blobSteps (itemsAt l (take (a .args .n) (a .args .places .now)))) n l m r → Did (blobSteps (found (listed (a .args .lists)) l)) n l m r
 on-found a d = rw (a .pre .4, items-found (a .args .image .now) (listed (a .args .lists)) (a .pre .3)) at d
 
-slice-reshare-prefix-make-blobs : tie.Need-slice-reshare-prefix-make-blobs
-slice-reshare-prefix-make-blobs c = search needs
-
 slice-aggregate-make-blobs : tie.Need-slice-aggregate-make-blobs
 slice-aggregate-make-blobs c = sym (length-take-le _ _ (omega arith))
 
@@ -33,18 +30,6 @@ make-blobs-requires : tie.Need-make-blobs-requires
 make-blobs-requires c κs =
     let a = c .before .before .before .before .before in
     record { few = simp length-take (omega arith); each = rw (a .pre .4) (found-placed (a .args .image .now) (listed (a .args .lists)) (a .pre .3)) }
-
-enum-known-r : tie.Need-enum-known-r
-enum-known-r c = search needs
-
-enum-told : tie.Need-enum-told
-enum-told c = search needs
-
-same-length : tie.Need-same-length
-same-length c = search needs
-
-same-length-2 : tie.Need-same-length-2
-same-length-2 c = search needs
 
 returns : tie.Need-returns
 returns c =
@@ -56,9 +41,6 @@ gather-requires c κs =
     let a = c .before .before .before .before .before .before .before .before .before .before .before .before .before in
     (a .pre .0, a .pre .1, lies-alike (c .before .before .before .before .before .before .before .make-blobs .ensures .1) (listed (a .args .lists)) (a .pre .3), omega arith)
 
-slice-reshare-prefix-duplicate-stage : tie.Need-slice-reshare-prefix-duplicate-stage
-slice-reshare-prefix-duplicate-stage c = search needs
-
 slice-aggregate-duplicate-stage : tie.Need-slice-aggregate-duplicate-stage
 slice-aggregate-duplicate-stage c = sym (length-take-le _ _ (omega arith))
 
@@ -69,34 +51,10 @@ duplicate-stage-requires c κs =
     let sectors = ap (λ (x : ℕ). x / 4096) (like .size) in
     (a .pre .1, rw sectors (a .pre .2), lies-alike like (listed (a .args .lists)) (a .pre .3), c .before .before .before .before .before .gather .ensures .0, simp length-take (omega arith))
 
-enum-known-r-2 : tie.Need-enum-known-r-2
-enum-known-r-2 c = search needs
-
-enum-told-2 : tie.Need-enum-told-2
-enum-told-2 c = search needs
-
-same-length-3 : tie.Need-same-length-3
-same-length-3 c = search needs
-
-same-length-4 : tie.Need-same-length-4
-same-length-4 c = search needs
-
-same-length-5 : tie.Need-same-length-5
-same-length-5 c = search needs
-
 returns-2 : tie.Need-returns-2
 returns-2 c =
     let a = c .before .before .before .before .before .before .before .before .before .before .before .before .before .before .before .before .before .before .before .before .before .before .before .before .before .before in
     blobs-on (listed (a .args .lists)) (on-found a (c .before .before .before .before .before .before .before .before .before .before .before .before .before .before .before .before .before .before .before .before .make-blobs .ensures .0)) (c .before .before .before .before .before .before .before .before .before .before .before .before .before .before .before .before .r .given .1) (one-stop Duplicates (c .before .before .before .before .before .before .duplicate-stage .ensures) (c .enum-told2 .given .1))
-
-same-length-6 : tie.Need-same-length-6
-same-length-6 c = search needs
-
-same-length-7 : tie.Need-same-length-7
-same-length-7 c = search needs
-
-same-length-8 : tie.Need-same-length-8
-same-length-8 c = search needs
 
 returns-3 : tie.Need-returns-3
 returns-3 c =
@@ -107,25 +65,25 @@ pub repair-spec : {M : Type 1} → statement M
 repair-spec =
     tie.close
     (tie.spec
-    slice-reshare-prefix-make-blobs
+    (λ c. search needs)
     slice-aggregate-make-blobs
     make-blobs-requires
-    enum-known-r
-    enum-told
-    same-length
-    same-length-2
+    (λ c. search needs)
+    (λ c. search needs)
+    (λ c. search needs)
+    (λ c. search needs)
     returns
     gather-requires
-    slice-reshare-prefix-duplicate-stage
+    (λ c. search needs)
     slice-aggregate-duplicate-stage
     duplicate-stage-requires
-    enum-known-r-2
-    enum-told-2
-    same-length-3
-    same-length-4
-    same-length-5
+    (λ c. search needs)
+    (λ c. search needs)
+    (λ c. search needs)
+    (λ c. search needs)
+    (λ c. search needs)
     returns-2
-    same-length-6
-    same-length-7
-    same-length-8
+    (λ c. search needs)
+    (λ c. search needs)
+    (λ c. search needs)
     returns-3)

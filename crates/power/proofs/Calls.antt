@@ -1,0 +1,67 @@
+-- Demand 3 of the calls: a call makes the first so many of the steps that demand 3 speaks of. Assumes nothing.
+use mathlib.Core.Path.{_≡_, refl, sym, ap, _∙_}
+use mathlib.Core.Bool.{Bool, true, false, not, _&&_}
+use mathlib.Core.List.{List, [], _∷_}
+use Prim.Native.Nat.{ℕ, _≤_}
+use native.Mathlib.Omega.{arith}
+use lib.ListN.{length, take}
+use lib.Seq.{take-all}
+use borrow.Author.Tests.{le-leb, not-true}
+use Rattle.page.proofs.Tests.{both-first, both-second}
+use Rattle.flash.specs.Step.{Step, run}
+use Rattle.answer.specs.declared.Answer.{Answer}
+use Rattle.answer.specs.Answer.{numberOf, refusal}
+use Rattle.answer.specs.Staged.{untag, answerOf}
+use Rattle.answer.proofs.Tagged.{made-no-refusal}
+use Rattle.answer.proofs.Made.{length-untag, done-fits}
+use Rattle.table.specs.Table.{sectorsOf, wholeSectors, pages, frees}
+use Rattle.reclaim.specs.Promise.{ReclaimPromise}
+use Rattle.recover.specs.Recover.{tooHigh, recovering, accepted, recovery}
+use Rattle.recover.specs.Promise.{calling, wholeAnswer, recoverAnswer, RecoverPromise}
+use Rattle.power.specs.Demand3.{Store, Safe, failing, recoveries, recovered, held}
+use Rattle.power.specs.Calls.{Called, Restarts, none, more, Sound, CallsSafe}
+use Rattle.power.proofs.Demand3.{demand3}
+
+module _ (l m : List ℕ) (a : Answer) (h : Called l m a) where
+  -- with records enough the steps are recovery's
+  steps : m ≡ run (take (h .allowance) (untag (recovery l))) l
+  unfolding calling
+  steps = rw (le-leb (sectorsOf l) (length (h .lent)) (h .enough)) at (h .promised .image)
+
+  answered : accepted l ≡ true → a ≡ answerOf (h .allowance) (recovering l)
+  unfolding recoverAnswer wholeAnswer accepted
+  answered e =
+      let w = both-first (wholeSectors l) (not (tooHigh (pages l))) e in
+      let t = not-true (tooHigh (pages l)) (both-second (wholeSectors l) (not (tooHigh (pages l))) e) in
+      rw (w, le-leb (sectorsOf l) (length (h .lent)) (h .enough), t) at (h .promised .answer)
+
+  not-refused : accepted l ≡ true → refusal a ≡ false
+  not-refused e = ap refusal (answered e) ∙ made-no-refusal (h .allowance) (recovering l)
+
+  -- a call that ended made all the steps
+  ended : accepted l ≡ true → numberOf a ≡ 0 → m ≡ recovered l
+  unfolding recovered recovery
+  ended e z =
+      let fits = done-fits (h .allowance) (recovering l) (ap numberOf (sym (answered e)) ∙ z) in
+      let all = take-all (h .allowance) (untag (recovering l)) (rw (length-untag (recovering l)) fits) in
+      rw (e, all) at steps
+
+-- calls of recovery are recoveries cut somewhere
+restarted : (l m : List ℕ) → Restarts l m → (ks : List ℕ) × (m ≡ recoveries ks l)
+unfolding recoveries
+restarted l m (none e) = ([], e)
+restarted l m (more x a c r) = let k = restarted x m r in (c .allowance ∷ k .0, rw (← steps l x a c) (k .1))
+
+pub calls-safe : CallsSafe
+unfolding failing
+calls-safe l S c x r P m R w a C =
+    let k = restarted x m R in
+    let at : m ≡ failing c (k .0) l = k .1 ∙ ap (recoveries (k .0)) (P .image) in
+    let safe : Safe l m = rw at (demand3 l S c (k .0)) in
+    let end = λ (z : numberOf a ≡ 0). ended m w a C (safe .accepts) z in
+    record {
+      accepts = not-refused m w a C (safe .accepts);
+      items = λ z x. ap (held x) (end z) ∙ safe .items x;
+      once = λ z x. rw (end z) (safe .once x);
+      free = λ z. rw (end z) (safe .free);
+    }
