@@ -13,22 +13,26 @@ use crate::contents::{contents, Contents};
 /// No list is as long: a page has 1,008 words of entries. A call that has not ended by then never ends.
 const TOO_LONG: u64 = 20_000;
 
-/// The std hasher takes longer on an image than the call does.
+/// The std hasher takes longer on an image than the call does. Four sums side by side, since one would wait for
+/// each product.
 #[derive(Default)]
 struct WordHasher {
-    state: u64,
+    sums: [u64; 4],
 }
 
 impl Hasher for WordHasher {
     fn write(&mut self, bytes: &[u8]) {
-        for word in bytes.chunks_exact(8) {
-            let word = u64::from_le_bytes(word.try_into().expect("8 bytes"));
-            self.state = (self.state.rotate_left(23) ^ word).wrapping_mul(0x9E37_79B9_7F4A_7C15);
+        for words in bytes.chunks_exact(32) {
+            for (sum, word) in self.sums.iter_mut().zip(words.chunks_exact(8)) {
+                let word = u64::from_le_bytes(word.try_into().expect("8 bytes"));
+                *sum = (sum.rotate_left(23) ^ word).wrapping_mul(0x9E37_79B9_7F4A_7C15);
+            }
         }
     }
 
     fn finish(&self) -> u64 {
-        self.state ^ (self.state >> 32)
+        let mixed = self.sums.iter().fold(0, |mixed: u64, sum| mixed.rotate_left(17) ^ sum ^ (sum >> 32));
+        mixed.wrapping_mul(0x9E37_79B9_7F4A_7C15)
     }
 }
 
@@ -77,20 +81,28 @@ impl Figures {
     }
 }
 
+/// The parts of that size that are not alike.
+fn unlike<'a>(before: &'a [u8], after: &'a [u8], size: usize) -> Vec<(&'a [u8], &'a [u8])> {
+    before.chunks(size).zip(after.chunks(size)).filter(|(before, after)| before != after).collect()
+}
+
 /// "A step is one 4-byte word programmed or one sector erased": whether one step can make `after` of `before`.
 /// A step may move no bit.
 fn is_one_step(before: &[u8], after: &[u8]) -> bool {
-    let mut sectors = before.chunks(SECTOR_BYTES).zip(after.chunks(SECTOR_BYTES)).filter(|(a, b)| a != b);
-    let (Some((before, after)), None) = (sectors.next(), sectors.next()) else {
-        return before == after;
-    };
-    if after.iter().all(|byte| *byte == 0xFF) {
-        return true;
+    match unlike(before, after, SECTOR_BYTES)[..] {
+        [] => true,
+        [(before, after)] => after.iter().all(|byte| *byte == 0xFF) || is_one_word(before, after),
+        _ => false,
     }
-    let mut words = before.chunks(4).zip(after.chunks(4)).filter(|(a, b)| a != b);
-    let (first, second) = (words.next(), words.next());
-    let only_clears = |(a, b): (&[u8], &[u8])| a.iter().zip(b).all(|(a, b)| a & b == *b);
-    second.is_none() && first.is_some_and(only_clears)
+}
+
+/// Whether two sectors differ in one word, and that only by bits cleared. By lines first: most are alike.
+fn is_one_word(before: &[u8], after: &[u8]) -> bool {
+    const LINE: usize = 128;
+    let lines = unlike(before, after, LINE);
+    let words: Vec<_> = lines.into_iter().flat_map(|(before, after)| unlike(before, after, 4)).collect();
+    let only_clears = |before: &[u8], after: &[u8]| before.iter().zip(after).all(|(b, a)| b & a == *a);
+    matches!(words[..], [(before, after)] if only_clears(before, after))
 }
 
 struct Trial<'a> {
