@@ -2,7 +2,7 @@
 use mathlib.Core.Path.{_≡_, refl, sym, ap, _∙_}
 use mathlib.Core.Bool.{Bool, true, false, not, _&&_}
 use mathlib.Core.List.{List, [], _∷_}
-use Prim.Native.Nat.{ℕ, _≤_}
+use Prim.Native.Nat.{ℕ, zero, suc, _≤_}
 use native.Mathlib.Omega.{arith}
 use lib.ListN.{length, take}
 use lib.Seq.{take-all}
@@ -19,7 +19,7 @@ use Rattle.reclaim.specs.Promise.{ReclaimPromise}
 use Rattle.recover.specs.Recover.{tooHigh, recovering, accepted, recovery}
 use Rattle.recover.specs.Promise.{calling, wholeAnswer, recoverAnswer, RecoverPromise}
 use Rattle.power.specs.Demand3.{Store, Safe, failing, recoveries, recovered, held}
-use Rattle.power.specs.Calls.{Called, Restarts, none, more, Sound, CallsSafe}
+use Rattle.power.specs.Calls.{Called, Restarts, Sound, CallsSafe}
 use Rattle.power.proofs.Demand3.{demand3}
 
 module _ (l m : List ℕ) (a : Answer) (h : Called l m a) where
@@ -44,21 +44,22 @@ module _ (l m : List ℕ) (a : Answer) (h : Called l m a) where
   ended e z =
       let fits = done-fits (h .allowance) (recovering l) (ap numberOf (sym (answered e)) ∙ z) in
       let all = take-all (h .allowance) (untag (recovering l)) (rw (length-untag (recovering l)) fits) in
-      rw (e, all) at steps
+      let made : m ≡ run (untag (recovering l)) l = rw (e, all) at steps in
+      rw e made
 
 -- calls of recovery are recoveries cut somewhere
-restarted : (l m : List ℕ) → Restarts l m → (ks : List ℕ) × (m ≡ recoveries ks l)
-unfolding recoveries
-restarted l m (none e) = ([], e)
-restarted l m (more x a c r) = let k = restarted x m r in (c .allowance ∷ k .0, rw (← steps l x a c) (k .1))
+restarted : (k : ℕ) (l m : List ℕ) → Restarts k l m → (ks : List ℕ) × (m ≡ recoveries ks l)
+unfolding Restarts recoveries
+restarted zero l m e = ([], e)
+restarted (suc k) l m (x, a, c, r) = let s = restarted k x m r in (c .allowance ∷ s .0, rw (← steps l x a c) (s .1))
 
 pub calls-safe : CallsSafe
 unfolding failing
-calls-safe l S c x r P m R w a C =
-    let k = restarted x m R in
+calls-safe l S c x r P m n R w a C =
+    let k = restarted n x m R in
     let at : m ≡ failing c (k .0) l = k .1 ∙ ap (recoveries (k .0)) (P .image) in
     let safe : Safe l m = rw at (demand3 l S c (k .0)) in
-    let end = λ (z : numberOf a ≡ 0). ended m w a C (safe .accepts) z in
+    let end : numberOf a ≡ 0 → w ≡ recovered m = ended m w a C (safe .accepts) in
     record {
       accepts = not-refused m w a C (safe .accepts);
       items = λ z x. ap (held x) (end z) ∙ safe .items x;

@@ -3,7 +3,7 @@
 use mathlib.Core.Path.{_≡_}
 use mathlib.Core.Bool.{false}
 use mathlib.Core.List.{List}
-use Prim.Native.Nat.{ℕ, _≤_}
+use Prim.Native.Nat.{ℕ, zero, suc, _≤_}
 use lib.ListN.{length}
 use Rattle.answer.specs.declared.Answer.{Answer}
 use Rattle.answer.specs.Answer.{numberOf, refusal}
@@ -21,10 +21,10 @@ pub record Called (l m : List ℕ) (a : Answer) : Type 0 where
   pub enough : sectorsOf l ≤ length lent
   pub promised : RecoverPromise l lent allowance m stored a
 
--- recovery called so often, one call on what the last one left
-pub data Restarts (l m : List ℕ) : Type 0 where
-  none : m ≡ l → Restarts l m
-  more : (x : List ℕ) (a : Answer) → Called l x a → Restarts x m → Restarts l m
+-- recovery called k times, each call on what the last one left
+unfoldable pub Restarts : ℕ → List ℕ → List ℕ → Type 0
+Restarts zero l m = m ≡ l
+Restarts (suc k) l m = (x : List ℕ) × (a : Answer) × Called l x a × Restarts k x m
 
 -- of any call of recovery, on the way or the last: it is not refused, and if it ended the store l stands again
 pub record Sound (l m : List ℕ) (a : Answer) : Type 0 where
@@ -35,4 +35,4 @@ pub record Sound (l m : List ℕ) (a : Answer) : Type 0 where
   pub free : numberOf a ≡ 0 → length (frees l) ≤ length (frees m)
 
 abbrev pub CallsSafe : Type 0
-CallsSafe = (l : List ℕ) → Store l → (c : ℕ) (x : List ℕ) (r : Answer) → ReclaimPromise l c x r → (m : List ℕ) → Restarts x m → (w : List ℕ) (a : Answer) → Called m w a → Sound l w a
+CallsSafe = (l : List ℕ) → Store l → (c : ℕ) (x : List ℕ) (r : Answer) → ReclaimPromise l c x r → (m : List ℕ) (k : ℕ) → Restarts k x m → (w : List ℕ) (a : Answer) → Called m w a → Sound l w a

@@ -30,12 +30,17 @@ fn unchanged() -> PageRecord {
     }
 }
 
-fn write_record(r: PageRecord) -> bool {
-    let state = r.state;
-    let mut out = [0xEEu8; 21];
-    if r.written != 0xEEEE_EEEE {
-        put_byte(&mut out, 0, state_number(state));
+fn state_byte(r: PageRecord) -> u8 {
+    if r.written == 0xEEEE_EEEE {
+        return 0xEE;
     }
+    let state = r.state;
+    state_number(state)
+}
+
+fn write_record(r: PageRecord) -> bool {
+    let mut out = [0u8; 21];
+    put_byte(&mut out, 0, state_byte(r));
     put_four(&mut out, 1, r.sequence);
     put_four(&mut out, 5, r.written);
     put_four(&mut out, 9, r.erased);

@@ -43,7 +43,8 @@ pub extern "C" fn timing_reclaim(image: &mut [u8], allowance: u64) -> u64 {
 #[no_mangle]
 pub extern "C" fn timing_recover(image: &mut [u8], allowance: u64) -> u64 {
     let made = recover::recover_image(image, 16, allowance);
-    answer::steps(made.answer)
+    let answer = made.answer;
+    answer::steps(answer)
 }
 
 // An answer in one number: sixteen times its steps, and its own number. (No list is as long as the remainder; it shuts out an overflow.)
