@@ -47,7 +47,7 @@ pub extern "C" fn timing_recover(image: &mut [u8], allowance: u64) -> u64 {
     answer::steps(answer)
 }
 
-// An answer in one number: sixteen times its steps, and its own number. (No list is as long as the remainder; it shuts out an overflow.)
+// An answer in one number: sixteen times its steps, and its own number. (The remainder shuts out an overflow; no list is as long.)
 fn packed(answer: Answer) -> u64 {
     answer::steps(answer) % 0x1_0000_0000 * 16 + answer::number(answer) as u64
 }
@@ -62,5 +62,6 @@ pub extern "C" fn timing_reclaim_answer(image: &mut [u8], allowance: u64) -> u64
 #[no_mangle]
 pub extern "C" fn timing_recover_answer(image: &mut [u8], allowance: u64) -> u64 {
     let made = recover::recover_image(image, 16, allowance);
-    packed(made.answer)
+    let answer = made.answer;
+    packed(answer)
 }
