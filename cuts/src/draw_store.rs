@@ -12,7 +12,7 @@ use crate::draw_items::{draw_group, draw_plain_of, Names};
 const STATES: [EntryState; 4] =
     [EntryState::Erased, EntryState::Illegal, EntryState::Written, EntryState::Empty];
 
-/// What may be odd about a store: each at most once in two stores, so that they also come alone.
+/// What may be odd about a store's pages: each in half of the stores or fewer, so that they also come alone.
 struct Habits {
     /// Entries between the items that no item uses.
     gaps: bool,
@@ -191,16 +191,22 @@ fn draw_page(random: &mut Random, sequence: u32, limit: usize) -> Page {
     page
 }
 
+fn draw_habits(random: &mut Random) -> Habits {
+    Habits { gaps: random.once_in(2), torn: random.once_in(2), unreadable: random.once_in(3) }
+}
+
 fn draw_pages(random: &mut Random, count: usize) -> Vec<Page> {
     let limit = draw_limit(random);
     let sequences = draw_sequences(random, count);
     let mut pages: Vec<Page> =
         sequences.into_iter().map(|sequence| draw_page(random, sequence, limit)).collect();
-    let habits = Habits { gaps: random.once_in(2), torn: random.once_in(2), unreadable: random.once_in(3) };
+    let habits = draw_habits(random);
     let mut names = Names::default();
-    lay_items(random, &habits, &mut names, &mut pages);
     if limit == ENTRIES && !random.once_in(4) {
+        lay_items(random, &Habits { gaps: false, unreadable: false, ..habits }, &mut names, &mut pages);
         fill_up(random, &mut names, &mut pages);
+    } else {
+        lay_items(random, &habits, &mut names, &mut pages);
     }
     pages.iter_mut().for_each(|page| page.use_rest(random, &habits));
     pages
@@ -217,7 +223,7 @@ fn draw_free(random: &mut Random) -> Vec<u8> {
 
 pub fn draw_store(random: &mut Random) -> Vec<u8> {
     let sectors = draw_sector_count(random);
-    let free = if sectors == 2 || random.once_in(2) { 1 } else { 1 + random.below(sectors - 1) };
+    let free = if random.once_in(2) { 1 } else { 1 + random.below(3.min(sectors - 1)) };
     let mut store: Vec<Vec<u8>> =
         draw_pages(random, sectors - free).into_iter().map(|page| page.sector).collect();
     (0..free).for_each(|_| store.push(draw_free(random)));
