@@ -86,8 +86,8 @@ impl Page {
 /// Mostly small, since the calls go with the square of the entries that are copied.
 fn draw_limit(random: &mut Random) -> usize {
     match random.below(48) {
-        0..=2 => ENTRIES,
-        3..=6 => 40 + random.below(40),
+        0 => ENTRIES,
+        1..=6 => 40 + random.below(40),
         7..=24 => 16 + random.below(24),
         _ => 2 + random.below(16),
     }
@@ -169,9 +169,10 @@ fn lay_items(random: &mut Random, habits: &Habits, names: &mut Names, pages: &mu
     }
 }
 
-/// Pages whose last item ends at entry 125, its payload not all Written: a copy of such a page may fill its target.
+/// Lays a last item to the end of each page with items, its payload not all Written: a copy of such a page may fill
+/// its target, although the page has fewer than 126 Written entries.
 fn fill_up(random: &mut Random, names: &mut Names, pages: &mut [Page]) {
-    for page in pages.iter_mut().filter(|page| page.next < page.limit) {
+    for page in pages.iter_mut().filter(|page| page.limit > 0 && page.next < ENTRIES) {
         let header = page.next;
         let piece = draw_plain_of(random, names, ENTRIES - header);
         page.lay(random, &Habits { gaps: false, torn: false, unreadable: false }, &piece);
@@ -200,13 +201,15 @@ fn draw_pages(random: &mut Random, count: usize) -> Vec<Page> {
     let sequences = draw_sequences(random, count);
     let mut pages: Vec<Page> =
         sequences.into_iter().map(|sequence| draw_page(random, sequence, limit)).collect();
-    let habits = draw_habits(random);
+    let mut habits = draw_habits(random);
     let mut names = Names::default();
-    if limit == ENTRIES && !random.once_in(4) {
-        lay_items(random, &Habits { gaps: false, unreadable: false, ..habits }, &mut names, &mut pages);
+    let to_the_end = random.once_in(20);
+    if to_the_end {
+        habits = Habits { gaps: false, unreadable: false, ..habits };
+    }
+    lay_items(random, &habits, &mut names, &mut pages);
+    if to_the_end {
         fill_up(random, &mut names, &mut pages);
-    } else {
-        lay_items(random, &habits, &mut names, &mut pages);
     }
     pages.iter_mut().for_each(|page| page.use_rest(random, &habits));
     pages
