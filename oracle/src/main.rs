@@ -1,45 +1,11 @@
-//! A plain model of document 01, a generator of cases, and comparisons with the model. README.md says how
-//! each command is used.
-
-mod active_order;
-mod blobs;
-mod branch;
-mod case_branches;
-mod compare;
-mod cover;
-mod crc;
-mod describe;
-mod draw_image;
-mod draw_page;
-mod draw_pieces;
-mod duplicates;
-mod finish;
-mod generate;
-mod items;
-mod listing;
-mod mishaps;
-mod mutants;
-mod named;
-mod notes;
-mod other_way;
-mod protocol;
-mod random;
-mod reclaim;
-mod recover;
-mod sample;
-mod scan;
-mod sector;
-mod slip;
-mod steps;
-#[cfg(test)]
-mod tests;
-mod writing;
+//! The commands. README.md says how each is used.
 
 use std::error::Error;
 use std::io::{self, Read, Write};
 use std::process::ExitCode;
 
-use protocol::{Case, Operation};
+use oracle::protocol::{self, Case, Operation};
+use oracle::{compare, cover, generate, mutants, sample};
 
 const USAGE: &str = "oracle answer < cases > answers
 oracle check CASES ANSWERS

@@ -1,4 +1,5 @@
-// C names for the benchmark alone: the proved code as it stands, on plain slices. Nothing here is offered to users.
+// C names for the benchmark and the cuts: the proved code as it stands, on plain slices. Nothing here is offered to users.
+use answer::Answer;
 use reader::Found;
 ghost use mathlib.Core.Path.{_≡_};
 ghost use Prim.Native.Nat.{_≤_};
@@ -44,4 +45,23 @@ pub extern "C" fn timing_recover(image: &mut [u8], allowance: u64) -> u64 {
     let made = recover::recover_image(image, 16, allowance);
     let answer = made.answer;
     answer::steps(answer)
+}
+
+// An answer in one number: sixteen times its steps, and its own number. (The remainder shuts out an overflow; no list is as long.)
+fn packed(answer: Answer) -> u64 {
+    answer::steps(answer) % 0x1_0000_0000 * 16 + answer::number(answer) as u64
+}
+
+// What one reclaim of an image answers.
+#[no_mangle]
+pub extern "C" fn timing_reclaim_answer(image: &mut [u8], allowance: u64) -> u64 {
+    packed(reclaim::reclaim(image, allowance))
+}
+
+// What one recovery of an image answers.
+#[no_mangle]
+pub extern "C" fn timing_recover_answer(image: &mut [u8], allowance: u64) -> u64 {
+    let made = recover::recover_image(image, 16, allowance);
+    let answer = made.answer;
+    packed(answer)
 }
