@@ -1,21 +1,12 @@
 -- A version is a group and a start: where the keys have 128 bits, both are told by its number. Assumes nothing.
 use mathlib.Core.Path.{_≡_, ap₂}
-use mathlib.Core.Bool.{Bool, true, false, cond}
 use mathlib.Core.List.{List}
 use Prim.Native.Nat.{ℕ, _+_, _*_, _^_, _<_}
 use native.Mathlib.Omega.{arith}
-use lib.Dec.{ltb}
-use Rattle.entry.specs.Fields.{namespaceOf, keyOf, keyNumber, chunkIndexOf, indexStart}
+use Rattle.entry.specs.Fields.{namespaceOf, keyOf, keyNumber}
 use Rattle.entry.proofs.Keys.{two-high, two-low}
-use Rattle.found.specs.Found.{isChunk, startIn, versionOf, groupOf}
-
-start-below : (r : List ℕ) → startIn r < 256
-unfolding startIn
-start-below r = go (ltb (cond (isChunk r) (chunkIndexOf r) (indexStart r)) 0x80)
-  where
-    go : (b : Bool) → cond b 0 0x80 < 256
-    go true = omega arith
-    go false = omega arith
+use Rattle.found.specs.Found.{startIn, versionOf, groupOf}
+use Rattle.found.proofs.Ranking.{start-le}
 
 module _ (r q : List ℕ) (kr : keyNumber (keyOf r) < 2 ^ 128) (kq : keyNumber (keyOf q) < 2 ^ 128) where
   pub version-tells : versionOf r ≡ versionOf q → (groupOf r ≡ groupOf q) × (startIn r ≡ startIn q)
@@ -23,8 +14,8 @@ module _ (r q : List ℕ) (kr : keyNumber (keyOf r) < 2 ^ 128) (kq : keyNumber (
   version-tells e =
       let high = two-high 128 {h = namespaceOf r * 256 + startIn r} {h′ = namespaceOf q * 256 + startIn q} kr kq e in
       let low = two-low 128 (namespaceOf r * 256 + startIn r) (namespaceOf q * 256 + startIn q) kr kq e in
-      let a = start-below r in
-      let b = start-below q in
+      let a = start-le r in
+      let b = start-le q in
       let n : namespaceOf r ≡ namespaceOf q = omega arith in
       (ap₂ (λ (x y : ℕ). x * 2 ^ 128 + y) n low, omega arith)
 

@@ -3,16 +3,16 @@ use mathlib.Core.Path.{_≡_, refl}
 use mathlib.Core.Bool.{Bool, true, false, cond}
 use mathlib.Core.Option.{Option, none, some}
 use mathlib.Core.List.{List, _∷_}
-use Prim.Native.Nat.{ℕ, _+_, _^_, _<_}
+use Prim.Native.Nat.{ℕ, _+_, _^_, _<_, _≤_}
 use native.Mathlib.Omega.{arith}
 use lib.Dec.{eqb, leb, ltb}
 use Rattle.entry.specs.declared.fields.Key.{Key}
-use Rattle.entry.specs.Fields.{keyNumber}
+use Rattle.entry.specs.Fields.{keyNumber, chunkIndexOf, indexStart}
 use Rattle.entry.proofs.Keys.{ltb-agree, eqb-agree, two-lt}
 use Rattle.lists.specs.Lists.{keep, lesser, leastFrom}
 use Rattle.lists.proofs.Member.{none≢some}
 use Rattle.found.specs.declared.ranks.Pass.{Pass}
-use Rattle.found.specs.Found.{Found}
+use Rattle.found.specs.Found.{Found, isChunk, startIn}
 use Rattle.found.specs.Ranks.{takes, numberIn, numbers, lesserWith}
 
 -- a key's number has 128 bits
@@ -55,3 +55,12 @@ least-more p v x xs = go (takes p (x .raw)) refl
     go : (b : Bool) → takes p (x .raw) ≡ b → leastFrom v (numbers p (x ∷ xs)) ≡ cond b (lesser v (numberIn p (x .raw)) (leastFrom v (numbers p xs))) (leastFrom v (numbers p xs))
     go true e = rw e
     go false e = rw e
+
+-- "start 0 for a byte below 0x80, else 0x80"
+pub start-le : (r : List ℕ) → startIn r ≤ 128
+unfolding startIn
+start-le r = go (ltb (cond (isChunk r) (chunkIndexOf r) (indexStart r)) 0x80)
+  where
+    go : (b : Bool) → cond b 0 0x80 ≤ 128
+    go true = omega arith
+    go false = omega arith

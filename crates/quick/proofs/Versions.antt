@@ -12,18 +12,11 @@ use Rattle.entry.specs.declared.kinds.Kind.the-variants.{Blob, Chunk, Index, Si
 use Rattle.entry.specs.Fields.{chunkIndexOf, indexStart, keyNumber, keyOf, kindIn, namespaceOf}
 use Rattle.lists.proofs.Member.{true≢false}
 use Rattle.found.specs.Found.{chunkKind, groupOf, indexKind, isChunk, isIndex, isPart, startIn, versionOf}
+use Rattle.found.proofs.Ranking.{start-le}
 
 -- the group of a version
 abbrev pub groupIn : ℕ → ℕ
 groupIn v = v / 2 ^ 128 / 256 * 2 ^ 128 + v % 2 ^ 128
-
-start-le : (r : List ℕ) → startIn r ≤ 128
-unfolding startIn
-start-le r = go (ltb (cond (isChunk r) (chunkIndexOf r) (indexStart r)) 0x80)
-  where
-    go : (b : Bool) → cond b 0 0x80 ≤ 128
-    go true = omega arith
-    go false = omega arith
 
 -- over a base that nothing computes
 split-group : (b n st k v : ℕ) → k < b → st ≤ 128 → (n * 256 + st) * b + k ≡ v → v / b / 256 * b + v % b ≡ n * b + k
