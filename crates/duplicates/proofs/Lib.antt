@@ -1,4 +1,5 @@
 pub mod Sorted
+pub mod Room
 pub mod Taking
 pub mod Marking
 pub mod Once

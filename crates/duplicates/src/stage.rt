@@ -9,7 +9,7 @@ use table::Table;
 ghost use mathlib.Core.Path.{_≡_};
 ghost use mathlib.Core.List.{map, flatMap};
 ghost use Prim.Native.Nat.{_+_, _*_, _≤_};
-ghost use lib.ListN.{length};
+ghost use lib.ListN.{length, take};
 ghost use Rattle.entry.specs.States.{empty, countState};
 ghost use Rattle.flash.specs.Step.{sector as sectorIn};
 ghost use Rattle.flash.specs.Did.{Did};
@@ -21,26 +21,29 @@ ghost use Rattle.found.specs.Ranks.{rankNumber};
 ghost use Rattle.duplicates.specs.Duplicates.{groups, lastMarks, duplicateStage};
 ghost use Rattle.duplicates.specs.Turns.{groupSteps};
 
-fn take_group(image: &mut [u8], places: &[u16], sorted: &mut [u16], g: Rank, allowed: u64) -> Ran
-    requires { ⌜ Each (Placed (now image)) (now places) × (length (now places) ≤ length (now sorted)) ⌝ }
-    ensures { λ r. ⌜ Did (groupSteps (itemsAt (now (image .entry)) (now (places .entry))) (rankNumber g)) allowed (now (image .entry)) (now (image .exit)) r × Alike (now (image .entry)) (now (image .exit)) ⌝ }
+// The places are the first `n` in `room`, and from 2016 on it is free to sort in.
+fn take_group(image: &mut [u8], room: &mut [u16], n: usize, g: Rank, allowed: u64) -> Ran
+    requires { ⌜ Each (Placed (now image)) (take n (now room)) × (n ≤ 2016) × (4032 ≤ length (now room)) ⌝ }
+    ensures { λ r. ⌜ Did (groupSteps (itemsAt (now (image .entry)) (take n (now (room .entry)))) (rankNumber g)) allowed (now (image .entry)) (now (image .exit)) r × Alike (now (image .entry)) (now (image .exit)) × (take n (now (room .exit)) ≡ take n (now (room .entry))) ⌝ }
 {
-    let n = sort_group(image, places, g, sorted);
-    erase_all_old(image, places, &sorted[..n], allowed)
+    let m = sort_group(image, room, n, g);
+    let e = 2016 + m;
+    let held = &room[..];
+    erase_all_old(image, &held[..n], &held[2016..e], allowed)
 }
 
 // "Repeated search for the next key": each group, ascending.
-fn make_duplicates(image: &mut [u8], places: &[u16], sorted: &mut [u16], allowed: u64) -> Ran
-    requires { ⌜ Each (Placed (now image)) (now places) × (length (now places) ≤ length (now sorted)) ⌝ }
-    ensures { λ r. ⌜ Did (flatMap (groupSteps (itemsAt (now (image .entry)) (now (places .entry)))) (groups (itemsAt (now (image .entry)) (now (places .entry))))) allowed (now (image .entry)) (now (image .exit)) r × Alike (now (image .entry)) (now (image .exit)) ⌝ }
+fn make_duplicates(image: &mut [u8], room: &mut [u16], n: usize, allowed: u64) -> Ran
+    requires { ⌜ Each (Placed (now image)) (take n (now room)) × (n ≤ 2016) × (4032 ≤ length (now room)) ⌝ }
+    ensures { λ r. ⌜ Did (flatMap (groupSteps (itemsAt (now (image .entry)) (take n (now (room .entry))))) (groups (itemsAt (now (image .entry)) (take n (now (room .entry)))))) allowed (now (image .entry)) (now (image .exit)) r × Alike (now (image .entry)) (now (image .exit)) ⌝ }
 {
     let mut left = allowed;
     let mut last = Next::Nothing;
     loop {
-        let Next::Is(g) = found::next_rank(image, places, Pass::Items, last) else {
+        let Next::Is(g) = found::next_rank(image, &room[..n], Pass::Items, last) else {
             return Ran::Done(left);
         };
-        let r = take_group(image, places, sorted, g, left);
+        let r = take_group(image, room, n, g, left);
         let Ran::Done(rest) = r else {
             return Ran::Stopped;
         };
@@ -90,18 +93,18 @@ pub fn make_last_marks(image: &mut [u8], table: Table, allowed: u64) -> Ran
     Ran::Done(left)
 }
 
-// The stage, on the items at the places, which are those found on the listed pages.
+// The stage, on the items at the first `n` places in `room`, which are those found on the listed pages.
 pub fn duplicate_stage(
     image: &mut [u8],
     table: Table,
-    places: &[u16],
-    sorted: &mut [u16],
+    room: &mut [u16],
+    n: usize,
     allowed: u64,
 ) -> Ran
-    requires { ⌜ Sized table × PagesPlaced (sectorsOf (now image)) (listed table) (freed table) × Each (Lies (now image)) (listed table) × (now places ≡ map placeOf (found (listed table) (now image))) × (length (now places) ≤ length (now sorted)) ⌝ }
+    requires { ⌜ Sized table × PagesPlaced (sectorsOf (now image)) (listed table) (freed table) × Each (Lies (now image)) (listed table) × (take n (now room) ≡ map placeOf (found (listed table) (now image))) × (n ≤ 2016) × (4032 ≤ length (now room)) ⌝ }
     ensures { λ r. ⌜ Did (duplicateStage (listed table) (now (image .entry))) allowed (now (image .entry)) (now (image .exit)) r ⌝ }
 {
-    let r = make_duplicates(image, places, sorted, allowed);
+    let r = make_duplicates(image, room, n, allowed);
     let Ran::Done(left) = r else {
         return Ran::Stopped;
     };

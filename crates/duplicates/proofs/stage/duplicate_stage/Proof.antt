@@ -4,7 +4,7 @@ use mathlib.Core.Path.{_≡_, refl, sym, ap, _∙_}
 use mathlib.Core.List.{List, flatMap}
 use Prim.Native.Nat.{ℕ, _<_}
 use native.Mathlib.Omega.{arith}
-use lib.ListN.{getD}
+use lib.ListN.{take, getD}
 use borrow.Author.Needs.{needs}
 use Rattle.flash.specs.Did.{Did}
 use Rattle.flash.proofs.Laws.{goes-start, goes-then, goes-stop, goes-last}
@@ -21,18 +21,18 @@ use Rattle.duplicates.proofs.stage.duplicate_stage.Tie as tie
 
 make-duplicates-requires : tie.Need-make-duplicates-requires
 make-duplicates-requires c κs =
-    let a = c .before .before .before .before .before in
-    (rw (a .pre .3) (found-placed (a .args .image .now) (listed (a .args .table)) (a .pre .2)), a .pre .4)
+    let a = c .before .before .before .before in
+    (rw (a .pre .3) (found-placed (a .args .image .now) (listed (a .args .table)) (a .pre .2)), a .pre .4, a .pre .5)
 
 -- the erasures are the stage's
-erased : (c : tie.After-make-duplicates) → let a = c .before .before .before .before .before .before .args in
+erased : (c : tie.After-make-duplicates) → let a = c .before .before .before .before .before .args in
     Did (duplicateSteps (found (listed (a .table)) (a .image .now))) (a .allowed) (a .image .now) (c .make-duplicates .last .0) (c .make-duplicates .result)
 erased c =
-    let a = c .before .before .before .before .before .before in
+    let a = c .before .before .before .before .before in
     let l = a .args .image .now in
     let fs = found (listed (a .args .table)) l in
-    let small : (i : ℕ) → getD l i 0 < 256 = λ i. omega (arith, c .before .before .before .before .before .slice-known .given i) in
-    let items : itemsAt l (a .args .places .now) ≡ fs = ap (itemsAt l) (a .pre .3) ∙ items-found l (listed (a .args .table)) (a .pre .2) in
+    let small : (i : ℕ) → getD l i 0 < 256 = λ i. omega (arith, c .before .before .before .before .slice-known .given i) in
+    let items : itemsAt l (take (a .args .n) (a .args .room .now)) ≡ fs = ap (itemsAt l) (a .pre .3) ∙ items-found l (listed (a .args .table)) (a .pre .2) in
     rw (ap (λ (xs : List Found). flatMap (groupSteps xs) (groups xs)) items ∙ sym (steps-are fs (found-apart l (a .pre .1) (a .pre .2) small))) at (c .make-duplicates .ensures .0)
 
 returns : tie.Need-returns
@@ -40,12 +40,12 @@ unfolding duplicateStage
 returns c = goes-stop _ (goes-start _ _ _) refl (erased (c .before .before .before .before .before .before)) (c .enum-told .given .1)
 
 make-last-marks-requires : tie.Need-make-last-marks-requires
-make-last-marks-requires c κs = let a = c .before .before .before .before .before .before .before .before .before .before .before .before .before .before in (a .pre .0, rw (c .before .before .before .before .before .before .before .before .make-duplicates .ensures .1 .size) (a .pre .1))
+make-last-marks-requires c κs = let a = c .before .before .before .before .before .before .before .before .before .before .before .before .before in (a .pre .0, rw (c .before .before .before .before .before .before .before .before .make-duplicates .ensures .1 .size) (a .pre .1))
 
 returns-2 : tie.Need-returns-2
 unfolding duplicateStage
 returns-2 c =
-    goes-last (goes-then (lastMarks (listed (c .before .before .before .before .before .before .before .before .before .before .before .before .before .before .before .before .before .args .table))) (goes-start _ _ _) refl (erased (c .before .before .before .before .before .before .before .before .before .before .before)) (c .before .before .before .before .before .r .given .1)) (c .before .before .make-last-marks .ensures)
+    goes-last (goes-then (lastMarks (listed (c .before .before .before .before .before .before .before .before .before .before .before .before .before .before .before .before .args .table))) (goes-start _ _ _) refl (erased (c .before .before .before .before .before .before .before .before .before .before .before)) (c .before .before .before .before .before .r .given .1)) (c .before .before .make-last-marks .ensures)
 
 pub duplicate-stage-spec : {M : Type 1} → statement M
 duplicate-stage-spec =

@@ -31,12 +31,6 @@ returns c =
     let calm : Calm (λ (f : List ℕ → ℕ). tot f (found ps l)) = rw (c .before .before .before .before .before .before .before .before .before .before .before .gather .ensures .0, items-found l ps (a .pre .3)) at (c .before .before .before .before .before .before .is-calm .ensures (c .before .before .before .before .if1 .taken)) in
     rw (calm-stages ps l calm) (c .before .before .close-full .ensures)
 
-repair-requires : tie.Need-repair-requires
-repair-requires c κs =
-    let a = c .before .before .before .before .before .before .before .before .before .before .before .before .before .before in
-    let g = c .before .before .before .before .before .before .before .before .before .before .gather .ensures in
-    (a .pre .0, a .pre .1, a .pre .2, a .pre .3, g .0, g .1, omega arith, omega arith)
-
 pub last-stages-spec : {M : Type 1} → statement M
 last-stages-spec =
     tie.close
@@ -51,7 +45,6 @@ last-stages-spec =
     (λ c. search needs)
     returns
     (λ c. search needs)
-    (λ c. search needs)
-    repair-requires
+    (λ c κs. search needs)
     (λ c. search needs)
     (λ c. search needs))
