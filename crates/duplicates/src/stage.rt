@@ -53,7 +53,7 @@ fn make_duplicates(image: &mut [u8], room: &mut [u16], n: usize, allowed: u64) -
 }
 
 // How many Empty entries the page in `sector` has as the image stands.
-fn empty_in(image: &[u8], sector: usize) -> u32
+fn empty_in(image: &[u8], sector: usize) -> u8
     requires { ⌜ sector * 4096 + 4096 ≤ length (now image) ⌝ }
     ensures { λ r. ⌜ r ≡ countState (sectorIn sector (now (image .entry))) empty ⌝ }
 {
@@ -79,11 +79,11 @@ pub fn make_last_marks(image: &mut [u8], table: Table, allowed: u64) -> Ran
             i += 1;
             continue;
         }
-        if empty_in(image, p.sector) != 0 {
+        if empty_in(image, p.sector as usize) != 0 {
             i += 1;
             continue;
         }
-        let r = item::mark_full(image, p.sector, left);
+        let r = item::mark_full(image, p.sector as usize, left);
         let Ran::Done(rest) = r else {
             return Ran::Stopped;
         };

@@ -1,6 +1,7 @@
 -- Counting entries, over their number. Assumes nothing.
 use mathlib.Core.Path.{_≡_, refl, sym, ap, ap₂, _∙_}
-use Prim.Native.Nat.{ℕ, zero, suc, _+_, _<_}
+use mathlib.Core.Bool.{Bool, false, true}
+use Prim.Native.Nat.{ℕ, zero, suc, _+_, _<_, _≤_}
 use native.Mathlib.Nat.{add-zero, add-suc, add-assoc, add-comm, le-suc, le-trans, le-refl}
 use native.Mathlib.Omega.{arith}
 use lib.Dec.{eqb}
@@ -28,3 +29,13 @@ module _ (v : ℕ) where
   count-first f zero = refl
   count-first f (suc n) =
       ap (λ (x : ℕ). x + one (eqb (f (suc n)) v)) (count-first f n) ∙ omega arith
+
+  -- at most all of them
+  pub count-le : (f : ℕ → ℕ) (n : ℕ) → countOf f v n ≤ n
+  unfolding countOf
+  count-le f zero = omega arith
+  count-le f (suc n) = let h = count-le f n in one-more (eqb (f n) v) h
+    where
+      one-more : (b : Bool) → countOf f v n ≤ n → countOf f v n + one b ≤ suc n
+      one-more true h = omega arith
+      one-more false h = omega arith

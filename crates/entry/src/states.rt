@@ -32,10 +32,10 @@ fn tally(a: u64, b: u64, c: u64, d: u64, flip: u64) -> u32
 }
 
 pub struct Totals {
-    pub written: u32,
-    pub erased: u32,
-    pub empty: u32,
-    pub illegal: u32,
+    pub written: u8,
+    pub erased: u8,
+    pub empty: u8,
+    pub illegal: u8,
 }
 
 // How many of the 126 entries of the sector have each state. A state's pair is flipped to 11, so that one mask serves all four.
@@ -47,10 +47,14 @@ pub fn totals_of(s: &[u8]) -> Totals
     let b = word::le64(s, 40);
     let c = word::le64(s, 48);
     let d = word::le64(s, 56);
+    let written = tally(a, b, c, d, 0x5555_5555_5555_5555);
+    let erased = tally(a, b, c, d, 0xFFFF_FFFF_FFFF_FFFF);
+    let empty = tally(a, b, c, d, 0);
+    let illegal = tally(a, b, c, d, 0xAAAA_AAAA_AAAA_AAAA);
     Totals {
-        written: tally(a, b, c, d, 0x5555_5555_5555_5555),
-        erased: tally(a, b, c, d, 0xFFFF_FFFF_FFFF_FFFF),
-        empty: tally(a, b, c, d, 0),
-        illegal: tally(a, b, c, d, 0xAAAA_AAAA_AAAA_AAAA),
+        written: written as u8,
+        erased: erased as u8,
+        empty: empty as u8,
+        illegal: illegal as u8,
     }
 }

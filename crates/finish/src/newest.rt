@@ -58,5 +58,5 @@ pub fn newest_holds(t: &[u32; 324], image: &[u8], x: Page, lists: Table) -> bool
     if seen.sequence <= source.sequence {
         return false;
     }
-    matches(t, Alike::Name, image, x.sector, y.sector)
+    matches(t, Alike::Name, image, x.sector as usize, y.sector as usize)
 }

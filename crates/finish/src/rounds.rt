@@ -41,8 +41,15 @@ fn copy_afresh(t: &[u32; 324], image: &mut [u8], x: Page, lists: Table, allowanc
     let target = lists.free[n - 1];
     let source = x.seen;
     let top = table::larger(table::greatest_sequence(lists), source.sequence);
-    let ran = relocate::move_page(t, image, x.sector, target, top + 1, allowance);
-    let a = target * 4096;
+    let ran = relocate::move_page(
+        t,
+        image,
+        x.sector as usize,
+        target as usize,
+        top + 1,
+        allowance,
+    );
+    let a = target as usize * 4096;
     let e = a + 4096;
     let seen = page::page_record(t, &image[a..e]);
     let moved = Page {
@@ -70,7 +77,7 @@ fn erase_copy(
 {
     let out = table::take_out(lists, y.sector);
     let joined = table::join_free(out, y.sector);
-    let ran = flash::erase_sector(image, y.sector, allowance);
+    let ran = flash::erase_sector(image, y.sector as usize, allowance);
     let Ran::Done(left) = ran else {
         return Rounded {
             ran: Ran::Stopped,
@@ -92,7 +99,9 @@ fn beside_active(
     requires { ⌜ (now t ≡ crcTable) × Sized lists × Placed (sectorsOf (now image)) (x ∷ listed lists) (freed lists) × (firstOf activePage (listed lists) ≡ some y) × (nextSequence x (listed lists) < 0x1_0000_0000) ⌝ }
     ensures { λ r. ⌜ Makes (roundWith x (listed lists) (freed lists) (now (image .entry)) (some y)) allowance (now (image .entry)) (now (image .exit)) r ⌝ }
 {
-    if matches(t, Alike::Header, image, y.sector, x.sector) {
+    let copy = y.sector as usize;
+    let source = x.sector as usize;
+    if matches(t, Alike::Header, image, copy, source) {
         return erase_copy(t, image, x, y, lists, allowance);
     }
     copy_afresh(t, image, x, lists, allowance)
@@ -110,7 +119,7 @@ fn without_active(
     ensures { λ r. ⌜ Makes (roundWith x (listed lists) (freed lists) (now (image .entry)) none) allowance (now (image .entry)) (now (image .exit)) r ⌝ }
 {
     if newest_holds(t, image, x, lists) {
-        let ran = flash::erase_sector(image, x.sector, allowance);
+        let ran = flash::erase_sector(image, x.sector as usize, allowance);
         return Rounded {
             ran,
             table: table::join_free(lists, x.sector),

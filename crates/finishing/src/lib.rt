@@ -67,7 +67,7 @@ pub fn finish_all(
         let r = finish::round(t, image, x, stand, left);
         let ran = r.ran;
         let Ran::Done(rest) = ran else {
-            return Went::Short(Stage::Finish(x.sector));
+            return Went::Short(Stage::Finish(x.sector as usize));
         };
         left = rest;
         stand = r.table;

@@ -19,7 +19,7 @@ pub fn gather(t: &[u32; 324], image: &[u8], table: Table, out: &mut [u16]) -> us
     let mut i: usize = 0;
     while i < count {
         let p = table.pages[i];
-        let sector = p.sector;
+        let sector = p.sector as usize;
         let a = sector * 4096;
         let e = a + 4096;
         k = page::places(t, &image[a..e], sector * 128 + 2, out, k);

@@ -119,7 +119,7 @@ fn mark_all(image: &mut [u8], t: Table, allowance: u64) -> Ran
             i += 1;
             continue;
         }
-        let r = item::mark_full(image, p.sector, left);
+        let r = item::mark_full(image, p.sector as usize, left);
         let Ran::Done(rest) = r else {
             return Ran::Stopped;
         };
@@ -137,7 +137,7 @@ fn mark_kept(image: &mut [u8], p: Page, left: u64) -> Ran
     let seen = p.seen;
     let empty = seen.empty;
     if empty == 0 {
-        return item::mark_full(image, p.sector, left);
+        return item::mark_full(image, p.sector as usize, left);
     }
     Ran::Done(left)
 }

@@ -9,10 +9,10 @@ ghost use Rattle.page.specs.Record.{recordOf};
 pub struct PageRecord {
     pub state: PageState,
     pub sequence: u32,
-    pub written: u32,
-    pub erased: u32,
-    pub empty: u32,
-    pub illegal: u32,
+    pub written: u8,
+    pub erased: u8,
+    pub empty: u8,
+    pub illegal: u8,
 }
 
 pub fn page_record(t: &[u32; 324], s: &[u8]) -> PageRecord

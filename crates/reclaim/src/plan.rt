@@ -42,7 +42,7 @@ fn points_of(next: u64, p: Page) -> u64
     ensures { λ r. ⌜ r ≡ points next p ⌝ }
 {
     let seen = p.seen;
-    let erased = long(seen.erased);
+    let erased = long(seen.erased as u32);
     if erased == 0 {
         return 0;
     }
@@ -110,7 +110,7 @@ fn last_free(t: Table) -> Target
     if n == 0 {
         return Target::NoSector;
     }
-    Target::Sector(t.free[n - 1])
+    Target::Sector(t.free[n - 1] as usize)
 }
 
 // The crate marks the page Freeing before it looks for a free one; here the looking comes first, so that a refusal changes nothing.
@@ -144,7 +144,7 @@ pub fn plan_of(t: Table) -> Plan
         return Plan::Refuse(Answer::NotReclaimable);
     }
     if seen.erased == 126 {
-        return Plan::Clear(p.sector);
+        return Plan::Clear(p.sector as usize);
     }
-    plan_copy(t, p.sector, top)
+    plan_copy(t, p.sector as usize, top)
 }

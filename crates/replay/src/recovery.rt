@@ -23,29 +23,37 @@ fn unchanged() -> PageRecord {
     PageRecord {
         state: PageState::Blank,
         sequence: 0xEEEE_EEEE,
-        written: 0xEEEE_EEEE,
-        erased: 0xEEEE_EEEE,
-        empty: 0xEEEE_EEEE,
-        illegal: 0xEEEE_EEEE,
+        written: 0xEE,
+        erased: 0xEE,
+        empty: 0xEE,
+        illegal: 0xEE,
     }
 }
 
 fn state_byte(r: PageRecord) -> u8 {
-    if r.written == 0xEEEE_EEEE {
+    if r.written == 0xEE {
         return 0xEE;
     }
     let state = r.state;
     state_number(state)
 }
 
+// A count as four bytes: an unchanged one is 0xEE in each.
+fn count_word(n: u8) -> u32 {
+    if n == 0xEE {
+        return 0xEEEE_EEEE;
+    }
+    word::wide(n)
+}
+
 fn write_record(r: PageRecord) -> bool {
     let mut out = [0u8; 21];
     put_byte(&mut out, 0, state_byte(r));
     put_four(&mut out, 1, r.sequence);
-    put_four(&mut out, 5, r.written);
-    put_four(&mut out, 9, r.erased);
-    put_four(&mut out, 13, r.empty);
-    put_four(&mut out, 17, r.illegal);
+    put_four(&mut out, 5, count_word(r.written));
+    put_four(&mut out, 9, count_word(r.erased));
+    put_four(&mut out, 13, count_word(r.empty));
+    put_four(&mut out, 17, count_word(r.illegal));
     io::write_all(STDOUT_FILENO, &out)
 }
 

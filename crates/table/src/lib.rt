@@ -12,7 +12,7 @@ ghost use Rattle.table.specs.Sought.{soughtOf, codeOf, inState};
 
 // A page of the list: its sector, and the record that the scan made of it.
 pub struct Page {
-    pub sector: usize,
+    pub sector: u8,
     pub seen: PageRecord,
 }
 
@@ -20,7 +20,7 @@ pub struct Page {
 pub struct Table {
     pub pages: [Page; 16],
     pub count: usize,
-    pub free: [usize; 16],
+    pub free: [u8; 16],
     pub free_count: usize,
 }
 
@@ -58,7 +58,7 @@ pub fn scan(t: &[u32; 324], image: &[u8], sectors: usize) -> Table
 {
     let mut list = [no_page(); 16];
     let mut count: usize = 0;
-    let mut free = [0usize; 16];
+    let mut free = [0u8; 16];
     let mut free_count: usize = 0;
     let mut n: usize = 0;
     while n < sectors {
@@ -67,12 +67,15 @@ pub fn scan(t: &[u32; 324], image: &[u8], sectors: usize) -> Table
         let seen = page::page_record(t, &image[a..e]);
         let state = seen.state;
         if page::is_free(state) {
-            free[free_count] = n;
+            free[free_count] = n as u8;
             free_count += 1;
             n += 1;
             continue;
         }
-        list[count] = Page { sector: n, seen };
+        list[count] = Page {
+            sector: n as u8,
+            seen,
+        };
         count += 1;
         n += 1;
     }
@@ -158,7 +161,7 @@ pub fn as_full(p: Page) -> Page
 }
 
 // The list without the first page in `sector`: the last of the list takes its place.
-pub fn take_out(t: Table, sector: usize) -> Table
+pub fn take_out(t: Table, sector: u8) -> Table
     requires { ⌜ Sized t ⌝ }
     ensures { λ r. ⌜ Holds r (takeOut (inSector sector) (listed t)) (freed t) × (r .count ≡ t .count - 1) ⌝ }
 {
@@ -255,7 +258,7 @@ pub fn prepend_page(t: Table, p: Page) -> Table
 }
 
 // The free list with a sector more at its end.
-pub fn join_free(t: Table, sector: usize) -> Table
+pub fn join_free(t: Table, sector: u8) -> Table
     requires { ⌜ Sized t × (t .«free_count» < 16) ⌝ }
     ensures { λ r. ⌜ Holds r (listed t) (freed t ++ (sector ∷ [])) × (r .count ≡ t .count) ⌝ }
 {

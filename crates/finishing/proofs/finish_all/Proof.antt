@@ -52,12 +52,12 @@ round-requires c κs =
 
 returns-2 : tie.Need-returns-2 Inv-loop μ-loop
 returns-2 c =
-    let r = c .before .before .before .before in
+    let r = c .before .before .before .before .before in
     let x = r .before .before .before in
     let l = x .before .before .before .before in
     let s = l .loop .stand in
     making-stop (l .loop .inv .0 .making) (Finish (x .x .given .0 .0 .sector)) _ (rounds-more (listed s) (freed s) (l .loop .image) (l .loop .n) _ (omega arith) (source x))
-    (r .round .ensures .did) (c .enum-told2 .given .1)
+    (r .round .ensures .did) (c .before .enum-told2 .given .1)
 
 loop-again : tie.Need-loop-again Inv-loop μ-loop
 loop-again c =
@@ -86,6 +86,7 @@ finish-all-spec =
     (λ c. search needs)
     returns
     round-requires
+    (λ c. search needs)
     (λ c. search needs)
     (λ c. search needs)
     (λ c. search needs)

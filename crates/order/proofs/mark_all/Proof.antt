@@ -42,7 +42,7 @@ loop-again c =
 
 mark-full-requires : tie.Need-mark-full-requires Inv-loop μ-loop
 mark-full-requires c κs =
-    let l = c .before .before .before .before .before .before in
+    let l = c .before .before .before .before .before .before .before in
     let a = l .before .before in
     let t = a .args .t2 in
     page-fits (a .args .image .now) (l .loop .image) (a .pre .1) (l .loop .inv .1) _ (in-front (t .pages) (t .count) (l .loop .i) _ (a .pre .0 .list) (omega arith))
@@ -50,7 +50,7 @@ mark-full-requires c κs =
 returns : tie.Need-returns Inv-loop μ-loop
 returns c =
     let p = c .before .before .before .before in
-    let b = p .before .before in
+    let b = p .before .before .before in
     let l = b .before .before .before .before .before in
     let a = l .before .before in
     let t = a .args .t2 in
@@ -62,7 +62,7 @@ returns c =
 loop-again-2 : tie.Need-loop-again-2 Inv-loop μ-loop
 loop-again-2 c =
     let p = c .before .before .before .before .before in
-    let b = p .before .before in
+    let b = p .before .before .before in
     let l = b .before .before .before .before .before in
     let a = l .before .before in
     let t = a .args .t2 in (
@@ -95,6 +95,7 @@ mark-all-spec =
     (λ c. search needs)
     (λ c. search needs)
     loop-again
+    (λ c. search needs)
     mark-full-requires
     (λ c. search needs)
     (λ c. search needs)

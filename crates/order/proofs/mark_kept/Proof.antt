@@ -9,11 +9,11 @@ use Rattle.order.proofs.mark_kept.Tie as tie
 
 returns : tie.Need-returns
 unfolding keptMark
-returns c = rw (eq-eqb _ _ (c .before .before .before .before .if1 .taken)) (c .before .before .mark-full .ensures)
+returns c = rw (eq-eqb _ _ (c .before .before .before .before .before .if1 .taken)) (c .before .before .mark-full .ensures)
 
 returns-2 : tie.Need-returns-2
 unfolding keptMark
 returns-2 c = rw (ne-eqb _ _ (c .if1 .left)) (did-none _ _)
 
 pub mark-kept-spec : {M : Type 1} → statement M
-mark-kept-spec = tie.close (tie.spec (λ c κs. search needs) (λ c. search needs) returns returns-2)
+mark-kept-spec = tie.close (tie.spec (λ c. search needs) (λ c κs. search needs) (λ c. search needs) returns returns-2)

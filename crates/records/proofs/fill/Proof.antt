@@ -208,7 +208,7 @@ module _ {M : Type 1} (𝓤 : URA M) (H : Heap 𝓤) (A : Atoms 𝓤) (W : Given
         land ! (from ! (stop !)) (init ! 9 refl (LL.lawful P.the-type P′.the-laws 𝓤 H A W .typed r _ is .0)) $
         assigns ! (bin ! (load ! (from ! (stop !)) (look ! 13 refl)) (lit ! tt) (record { fits = bytes less })) (from ! (stop !)) (init ! 7 refl (tt, record { fits = bytes less })) $
         assigns ! (bin ! (load ! (from ! (fld ! refl (stop !))) (look-in ! 19 (sub ! 0 refl (whole !)))) (load ! (from ! (stop !)) (look ! 7 refl)) tt) (from ! (stop !)) (init ! 5 refl (tt, tt)) $
-        rewrite ! 5 (λ (p : ℕ). ‵ (fat fullShare tyPtr l₈ 0 (vptr b p))) (sym (place-is 24 o (i .0))) refl $
+        rewrite ! 5 (λ (p : ℕ). ‵ (fat fullShare tyPtr l₈ 0 (vptr b p))) (sym (place-is 12 o (i .0))) refl $
         move ! (1 ∷ []) $ elem-out ! R (Is R) (shows 𝓤 H A R) (LL.vals P.the-type P′.the-laws) (LL.tells P.the-type P′.the-laws) fullShare (lst (i .0)) (i .0) blankRecord b o (within less) (λ _.
         -- [the element; what it owns; the others; what r owns; the open borrow; obs; auth; _8; …]
         assigns ! (of-opd ! (load ! (from ! (stop !)) (look ! 11 refl))) (from ! (hop ! (look ! 7 refl) (stop !))) (store-raw ! 0 refl (LL.lawful P.the-type P′.the-laws 𝓤 H A W .typed r _ is .0)) $
@@ -238,7 +238,7 @@ module _ {M : Type 1} (𝓤 : URA M) (H : Heap 𝓤) (A : Atoms 𝓤) (W : Given
         below16 : Holds (ltb (i .0) n) → i .0 < 16
         below16 less = lt-of-lt-of-le (ltb→lt (i .0) n less) in-rows
 
-        bytes : Holds (ltb (i .0) n) → i .0 * 24 < 2 ^ 64
+        bytes : Holds (ltb (i .0) n) → i .0 * 12 < 2 ^ 64
         bytes less = omega (arith, below16 less)
 
         within : Holds (ltb (i .0) n) → i .0 < length (lst (i .0))

@@ -21,4 +21,4 @@ returns c =
     )
 
 pub join-free-spec : {M : Type 1} → statement M
-join-free-spec = tie.close (tie.spec (λ c. search needs) (λ c. search needs) (λ c. search needs) returns)
+join-free-spec = tie.close (tie.spec (λ c. search needs) (λ c. search needs) returns)

@@ -103,5 +103,6 @@ scan-spec =
     (λ c. search needs)
     (λ c. search needs)
     (λ c. search needs)
+    (λ c. search needs)
     loop-again-2
     returns)

@@ -31,7 +31,7 @@ returns-2 c = rw (found (c .before .before .before .before .before), le-ltb _ _ 
 matches-requires : tie.Need-matches-requires
 unfolding newest
 matches-requires c κs =
-    let k = c .before .before .before .before .before in
+    let k = c .before .before .before .before .before .before .before in
     let a = k .before .before .before .before .before in
     let l = a .args .image .now in
     (a .pre .0, a .pre .3, page-fits l l (a .pre .2) refl _ (best-in over (listed (a .args .lists)) _ (found k)))
@@ -39,9 +39,9 @@ matches-requires c κs =
 returns-3 : tie.Need-returns-3
 unfolding newestHolds
 returns-3 c =
-    let k = c .before .before .before .before .before .before in
+    let k = c .before .before .before .before .before .before .before .before in
     let a = k .before .before .before .before .before .args in
-    rw (found k, lt-ltb _ _ (c .before .if1 .left)) (c .matches .ensures ∙ holds-is (itemsIn (k .before .y .given .0 .0 .sector) (a .image .now)) (itemsIn (a .x .sector) (a .image .now)))
+    rw (found k, lt-ltb _ _ (c .before .before .before .if1 .left)) (c .matches .ensures ∙ holds-is (itemsIn (k .before .y .given .0 .0 .sector) (a .image .now)) (itemsIn (a .x .sector) (a .image .now)))
 
 pub newest-holds-spec : {M : Type 1} → statement M
 newest-holds-spec =
@@ -52,5 +52,7 @@ newest-holds-spec =
     (λ c. search needs)
     returns
     returns-2
+    (λ c. search needs)
+    (λ c. search needs)
     matches-requires
     returns-3)

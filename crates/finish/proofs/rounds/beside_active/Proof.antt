@@ -14,7 +14,7 @@ use Rattle.finish.proofs.rounds.beside_active.Tie as tie
 
 matches-requires : tie.Need-matches-requires
 matches-requires c κs =
-    let s = c .before .before in
+    let s = c .before .before .before .before in
     let l = s .args .image .now in
     (s .pre .0, page-fits l l (s .pre .2) refl (s .args .y) (inr (first-member activePage (listed (s .args .lists)) (s .args .y) (s .pre .3))), page-fits l l (s .pre .2) refl (s .args .x) (inl refl))
 
@@ -22,7 +22,7 @@ returns : tie.Need-returns
 unfolding roundWith
 returns c =
     let b = c .before .before .before .before in
-    let a = b .before .before .before .before .args in
+    let a = b .before .before .before .before .before .before .args in
     let e : copyOf (itemsIn (a .y .sector) (a .image .now)) (itemsIn (a .x .sector) (a .image .now)) ≡ true = sym (copy-is _ _) ∙ sym (b .before .matches .ensures) ∙ b .if1 .taken in
     rw e (c .before .before .erase-copy .ensures)
 
@@ -30,7 +30,7 @@ returns-2 : tie.Need-returns-2
 unfolding roundWith
 returns-2 c =
     let b = c .before .before .before .before in
-    let a = b .before .before .before .before .args in
+    let a = b .before .before .before .before .before .before .args in
     let e : copyOf (itemsIn (a .y .sector) (a .image .now)) (itemsIn (a .x .sector) (a .image .now)) ≡ false = sym (copy-is _ _) ∙ sym (b .before .matches .ensures) ∙ b .if1 .left in
     rw e (c .before .before .copy-afresh .ensures)
 
@@ -38,6 +38,8 @@ pub beside-active-spec : {M : Type 1} → statement M
 beside-active-spec =
     tie.close
     (tie.spec
+    (λ c. search needs)
+    (λ c. search needs)
     matches-requires
     (λ c κs. search needs)
     (λ c. search needs)

@@ -55,7 +55,7 @@ fits s =
 
 move-page-requires : tie.Need-move-page-requires
 move-page-requires c κs =
-    let s = c .before .before .before .before .before in
+    let s = c .before .before .before .before .before .before in
     let a = s .before .before in
     let l = a .args .image .now in (
       a .pre .0,
@@ -66,35 +66,35 @@ move-page-requires c κs =
 
 -- the steps that were made
 moved : (m : tie.After-move-page)
-    → let s = m .before .before .before .before .before .before in
+    → let s = m .before .before .before .before .before .before .before in
     let a = s .before .before .args in
     Did (moving (a .x .sector) (getD (a .t4 .free) (a .t4 .«free_count» - 1) 0) (nextSequence (a .x) (listed (a .t4))) (itemsIn (a .x .sector) (a .image .now)) (a .image .now))
     (a .allowance) (a .image .now) (m .move-page .last .1 .0) (m .move-page .result)
 unfolding itemsIn
 moved m =
-    let a = m .before .before .before .before .before .before .before .before .args in
-    let e : m .before .before .larger .result + 1 ≡ nextSequence (a .x) (listed (a .t4)) = omega (arith, m .before .before .larger .ensures, m .before .before .before .greatest-sequence .ensures) in
+    let a = m .before .before .before .before .before .before .before .before .before .args in
+    let e : m .before .before .before .larger .result + 1 ≡ nextSequence (a .x) (listed (a .t4)) = omega (arith, m .before .before .before .larger .ensures, m .before .before .before .before .greatest-sequence .ensures) in
     rw e at (m .move-page .ensures)
 
-kept : (m : tie.After-move-page) → length (m .move-page .last .1 .0) ≡ length (m .before .before .before .before .before .before .before .before .args .image .now)
+kept : (m : tie.After-move-page) → length (m .move-page .last .1 .0) ≡ length (m .before .before .before .before .before .before .before .before .before .args .image .now)
 kept m = ap length (moved m .image) ∙ length-run _ _
 
 mul-a : tie.Need-mul-a
-mul-a c = let h = fits (c .before .before .before .before .before .before .before .before) in omega arith
+mul-a c = let h = fits (c .before .before .before .before .before .before .before .before .before) in omega arith
 
 add-e : tie.Need-add-e
-add-e c = let h = fits (c .before .before .before .before .before .before .before .before) in omega arith
+add-e c = let h = fits (c .before .before .before .before .before .before .before .before .before) in omega arith
 
 part-page-record-end : tie.Need-part-page-record-end
 part-page-record-end c =
     let m = c .before .before .before in
-    let h = fits (m .before .before .before .before .before .before) in
+    let h = fits (m .before .before .before .before .before .before .before) in
     let k = kept m in
     omega arith
 
 append-page-requires : tie.Need-append-page-requires
 append-page-requires c κs =
-    let s = c .before .before .before .before .before .before .before .before .before .before .before .before in
+    let s = c .before .before .before .before .before .before .before .before .before .before .before .before .before in
     let h = room (s .before .before) in
     (c .drop-free .ensures .0 .sized, omega (arith, c .drop-free .ensures .1))
 
@@ -110,7 +110,7 @@ unfolding afresh
 returns-2 c =
     let p = c .before .before .before in
     let m = p .before .before .before .before .before in
-    let s = m .before .before .before .before .before .before in
+    let s = m .before .before .before .before .before .before .before in
     let a = s .before .before in
     let t = a .args .t4 in
     let q : getLast? (freed t) ≡ some (getD (t .free) (t .«free_count» - 1) 0) = front-last (t .free) (t .«free_count») 0 (a .pre .1 .free) (s .if1 .left) in
@@ -138,11 +138,13 @@ copy-afresh-spec =
     returns
     (λ c. search needs)
     (λ c. search needs)
+    (λ c κs. search needs)
+    (λ c κs. search needs)
     (λ c. search needs)
-    (λ c κs. search needs)
-    (λ c κs. search needs)
+    (λ c. search needs)
     (λ c. search needs)
     move-page-requires
+    (λ c. search needs)
     mul-a
     add-e
     (λ c. search needs)

@@ -31,7 +31,7 @@ join-free-requires c κs =
 
 erase-sector-requires : tie.Need-erase-sector-requires
 erase-sector-requires c κs =
-    let s = c .before .before .before .before in
+    let s = c .before .before .before .before .before in
     let l = s .args .image .now in
     page-fits l l (s .pre .2) refl (s .args .y) (inr (copy-in s))
 
@@ -43,7 +43,7 @@ returns c =
 copy-afresh-requires : tie.Need-copy-afresh-requires
 copy-afresh-requires c κs =
     let m = c .before .before .before .before .before .before in
-    let j = m .before .before in
+    let j = m .before .before .before in
     let s = j .before .before .before in
     let o = j .before .take-out .ensures .0 in
     let f = j .join-free .ensures .0 in
@@ -58,7 +58,7 @@ returns-2 : tie.Need-returns-2
 returns-2 c =
     let r = c .before .before .before .before .before in
     let m = r .before .before .before .before in
-    let j = m .before .before in
+    let j = m .before .before .before in
     let s = j .before .before .before in
     let o = j .before .take-out .ensures .0 in
     let f = j .join-free .ensures .0 in
@@ -71,6 +71,7 @@ erase-copy-spec =
     (tie.spec
     (λ c κs. search needs)
     join-free-requires
+    (λ c. search needs)
     erase-sector-requires
     (λ c. search needs)
     (λ c. search needs)

@@ -19,20 +19,20 @@ newest-holds-requires c κs =
 
 erase-sector-requires : tie.Need-erase-sector-requires
 erase-sector-requires c κs =
-    let s = c .before .before .before .before .before in
+    let s = c .before .before .before .before .before .before in
     let l = s .args .image .now in
     page-fits l l (s .pre .2) refl (s .args .x) (inl refl)
 
 join-free-requires : tie.Need-join-free-requires
 join-free-requires c κs =
-    let s = c .before .before .before .before .before .before .before .before in
+    let s = c .before .before .before .before .before .before .before .before .before in
     let a = held-free (holds-own (s .pre .1)) in
     (s .pre .1, omega (arith, s .pre .2 .sixteen))
 
 returns : tie.Need-returns
 unfolding roundWith
 returns c =
-    let b = c .before .before .before .before .before in
+    let b = c .before .before .before .before .before .before in
     let a = b .before .before .before .before .args in
     let e : newestHolds (a .x) (a .image .now) (newest (listed (a .lists))) ≡ true = sym (b .before .newest-holds .ensures) ∙ b .if1 .taken in
     rw e (record { did = c .before .before .before .erase-sector .ensures; lists = λ k q. c .join-free .ensures .0 })
@@ -50,6 +50,7 @@ without-active-spec =
     tie.close
     (tie.spec
     newest-holds-requires
+    (λ c. search needs)
     erase-sector-requires
     join-free-requires
     (λ c. search needs)

@@ -40,33 +40,33 @@ loop-holds : tie.Need-loop-holds Inv-loop μ-loop
 loop-holds c = (search needs, refl, search needs, refl)
 
 mul-a : tie.Need-mul-a Inv-loop μ-loop
-mul-a c = omega (arith, lies c .room)
+mul-a c = omega (arith, lies (c .before) .room)
 
 add-e : tie.Need-add-e Inv-loop μ-loop
-add-e c = omega (arith, lies c .room)
+add-e c = omega (arith, lies (c .before) .room)
 
 part-places-end : tie.Need-part-places-end Inv-loop μ-loop
-part-places-end c = omega (arith, lies c .room)
+part-places-end c = omega (arith, lies (c .before) .room)
 
 mul-places : tie.Need-mul-places Inv-loop μ-loop
-mul-places c = omega (arith, lies (c .before) .room)
+mul-places c = omega (arith, lies (c .before .before) .room)
 
 add-places : tie.Need-add-places Inv-loop μ-loop
-add-places c = omega (arith, lies (c .before) .room)
+add-places c = omega (arith, lies (c .before .before) .room)
 
 places-requires : tie.Need-places-requires Inv-loop μ-loop
 places-requires c κs =
-    let q = lies (c .before .before) in
-    let a = c .before .before .before .before .before .before .before in
-    let u = getD (a .args .t3 .pages) (c .before .before .before .before .loop .i) noPage .sector in
+    let q = lies (c .before .before .before) in
+    let a = c .before .before .before .before .before .before .before .before in
+    let u = getD (a .args .t3 .pages) (c .before .before .before .before .before .loop .i) noPage .sector in
     let sixteen : a .args .t3 .count ≤ 16 = omega (arith, a .pre .1 .list, a .pre .1 .sixteen) in
     let size : length (take (u * 4096 + 4096 - u * 4096) (drop (u * 4096) (a .args .image .now))) ≡ 4096 = simp (length-take, length-drop) (omega (arith, q .room)) in
-    (a .pre .0, size, omega (arith, q .sixteen), omega (arith, a .pre .3, c .before .before .before .before .loop .inv))
+    (a .pre .0, size, omega (arith, q .sixteen), omega (arith, a .pre .3, c .before .before .before .before .before .loop .inv))
 
 loop-again : tie.Need-loop-again Inv-loop μ-loop
 loop-again c =
-    let l = c .before .before .before .before .before .before .before .loop in
-    let a = c .before .before .before .before .before .before .before .before .before .before in
+    let l = c .before .before .before .before .before .before .before .before .loop in
+    let a = c .before .before .before .before .before .before .before .before .before .before .before in
     let table = a .args .t3 in
     let image = a .args .image .now in
     let p = getD (table .pages) (l .i) noPage in
@@ -100,6 +100,7 @@ gather-spec =
     Inv-loop
     μ-loop
     loop-holds
+    (λ c. search needs)
     (λ c. search needs)
     (λ c. search needs)
     mul-a

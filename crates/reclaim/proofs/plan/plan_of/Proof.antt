@@ -45,18 +45,18 @@ returns-3 c =
 returns-4 : tie.Need-returns-4
 unfolding plan planWith
 returns-4 c =
-    let p = c .before .before .before .before .before .before .p .given .0 .0 in
-    let e = page-is (chosen (listed (c .before .before .before .before .before .before .before .before .before .before .before .before .args .t))) p (sym (c .before .before .before .before .before .before .before .before .choose .ensures) ∙ c .before .before .before .before .before .before .p .given .1) in
-    let q : closed (p .seen .state) ≡ true = sym (c .before .before .before .is-closed .ensures) ∙ not-false (c .before .before .before .is-closed .result) (c .before .before .if2 .left) in
-    rw (← c .before .before .before .before .before .before .before .before .before .before .before .any-active .ensures, c .before .before .before .before .before .before .before .before .before .before .if1 .left, e, q, eq-eqb _ _ (c .if3 .taken))
+    let p = c .before .before .before .before .before .before .before .p .given .0 .0 in
+    let e = page-is (chosen (listed (c .before .before .before .before .before .before .before .before .before .before .before .before .before .args .t))) p (sym (c .before .before .before .before .before .before .before .before .before .choose .ensures) ∙ c .before .before .before .before .before .before .before .p .given .1) in
+    let q : closed (p .seen .state) ≡ true = sym (c .before .before .before .before .is-closed .ensures) ∙ not-false (c .before .before .before .before .is-closed .result) (c .before .before .before .if2 .left) in
+    rw (← c .before .before .before .before .before .before .before .before .before .before .before .before .any-active .ensures, c .before .before .before .before .before .before .before .before .before .before .before .if1 .left, e, q, eq-eqb _ _ (c .before .if3 .taken))
 
 returns-5 : tie.Need-returns-5
 unfolding plan planWith
 returns-5 c =
-    let p = c .before .before .before .before .before .before .before .p .given .0 .0 in
-    let e = page-is (chosen (listed (c .before .before .before .before .before .before .before .before .before .before .before .before .before .args .t))) p (sym (c .before .before .before .before .before .before .before .before .before .choose .ensures) ∙ c .before .before .before .before .before .before .before .p .given .1) in
-    let q : closed (p .seen .state) ≡ true = sym (c .before .before .before .before .is-closed .ensures) ∙ not-false (c .before .before .before .before .is-closed .result) (c .before .before .before .if2 .left) in
-    rw (c .plan-copy .ensures, ← c .before .before .before .before .before .before .before .before .before .before .before .before .any-active .ensures, c .before .before .before .before .before .before .before .before .before .before .before .if1 .left, e, q, ne-eqb _ _ (c .before .if3 .left))
+    let p = c .before .before .before .before .before .before .before .before .p .given .0 .0 in
+    let e = page-is (chosen (listed (c .before .before .before .before .before .before .before .before .before .before .before .before .before .before .args .t))) p (sym (c .before .before .before .before .before .before .before .before .before .before .choose .ensures) ∙ c .before .before .before .before .before .before .before .before .p .given .1) in
+    let q : closed (p .seen .state) ≡ true = sym (c .before .before .before .before .before .is-closed .ensures) ∙ not-false (c .before .before .before .before .before .is-closed .result) (c .before .before .before .before .if2 .left) in
+    rw (c .plan-copy .ensures, ← c .before .before .before .before .before .before .before .before .before .before .before .before .before .any-active .ensures, c .before .before .before .before .before .before .before .before .before .before .before .before .if1 .left, e, q, ne-eqb _ _ (c .before .before .if3 .left))
 
 pub plan-of-spec : {M : Type 1} → statement M
 plan-of-spec =
@@ -71,6 +71,8 @@ plan-of-spec =
     returns-2
     (λ c κs. search needs)
     returns-3
+    (λ c. search needs)
     returns-4
+    (λ c. search needs)
     (λ c κs. search needs)
     returns-5)

@@ -10,20 +10,20 @@ use Rattle.reclaim.proofs.plan.points_of.Tie as tie
 returns : tie.Need-returns
 unfolding points
 returns c =
-    let z : c .before .before .before .args .p .seen .erased ≡ 0 = omega arith in
+    let z : c .before .before .before .before .args .p .seen .erased ≡ 0 = omega arith in
     rw (eq-eqb _ _ z)
 
 returns-2 : tie.Need-returns-2
 unfolding points
 returns-2 c =
-    let a = c .before .before .before .before .before .args in
+    let a = c .before .before .before .before .before .before .args in
     let z : a .p .seen .erased ≡ 0 → ⊥ = λ e. omega arith in
     rw (ne-eqb _ _ z, c .before .before .before .long .ensures .0, c .before .long2 .ensures .0)
 
 returns-3 : tie.Need-returns-3
 unfolding points
 returns-3 c =
-    let a = c .before .before .before .before .before .args in
+    let a = c .before .before .before .before .before .before .args in
     let z : a .p .seen .erased ≡ 0 → ⊥ = λ e. omega arith in
     rw (ne-eqb _ _ z) (omega arith)
 
@@ -31,6 +31,7 @@ pub points-of-spec : {M : Type 1} → statement M
 points-of-spec =
     tie.close
     (tie.spec
+    (λ c. search needs)
     (λ c κs. search needs)
     returns
     (λ c κs. search needs)
