@@ -1,6 +1,7 @@
 //! Times of the proved code beside those of the crate it is a port of, on the same images, in turn, in one run.
 mod crc;
 mod images;
+mod stack;
 
 use crc::{crc, entry_crc, header_crc};
 use images::{doubled, items, sector, settled_16, settled_4, settled_475, settled_mixed, to_reclaim, unsound, SECTOR};
@@ -15,6 +16,9 @@ extern "C" {
 }
 
 type Call = fn(&mut [u8]) -> u64;
+
+/// What a call may take of the stack.
+const MOST_STACK: usize = 16 * 1024;
 
 fn reclaim(image: &mut [u8]) -> u64 {
     unsafe { timing_reclaim(image.as_mut_ptr(), image.len(), u64::MAX) }
@@ -163,6 +167,31 @@ fn entries_of(sectors: &[u8]) -> u32 {
     sectors.chunks(SECTOR).flat_map(items).map(entry_crc).fold(0, |x, y| x ^ y)
 }
 
+/// The deepest stack of each call, beside the image.
+fn measure_stacks() {
+    println!("deepest stack of a call, in bytes");
+    for (what, image, call) in [
+        ("reclaim: 16 sectors, 100 items copied", to_reclaim(14), reclaim as Call),
+        ("recovery: clean, 16 sectors, 1,900 items", settled_16(), recover),
+        ("recovery: clean, 16 sectors, mixed", settled_mixed(), recover),
+        ("recovery: 16 sectors, 882 items twice", doubled(), recover),
+        ("recovery: 16 sectors, 465 unsound blobs", unsound(), recover),
+        ("recovery: 16 sectors, a reclaim cut", half_reclaimed(), recover),
+    ] {
+        let mut copy = image.to_vec();
+        let bytes = stack::depth(|| call(&mut copy));
+        println!("{what:<46}{bytes:>9}");
+        assert!(bytes <= MOST_STACK, "{what}: more than {MOST_STACK} bytes of stack");
+    }
+}
+
+/// A store whose reclaim was cut while it copied: recovery erases the partial copy and makes it anew.
+fn half_reclaimed() -> Vec<u8> {
+    let mut image = to_reclaim(14);
+    unsafe { timing_reclaim(image.as_mut_ptr(), image.len(), 500) };
+    image
+}
+
 fn time_reclaims() {
     for (what, full_pages) in
         [("reclaim: 16 sectors, 1,864 items, 100 copied", 14), ("reclaim: 2 sectors, 100 items", 0)]
@@ -244,4 +273,5 @@ fn main() {
     time_recoveries();
     time_readings();
     name_crc();
+    measure_stacks();
 }
