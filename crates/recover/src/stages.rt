@@ -4,40 +4,32 @@ use answer::Went;
 use flash::Ran;
 use table::Table;
 ghost use mathlib.Core.Path.{_≡_};
-ghost use mathlib.Core.List.{map};
 ghost use Prim.Native.Nat.{_+_, _≤_, _*_};
-ghost use lib.ListN.{length, take};
+ghost use lib.ListN.{length};
 ghost use Rattle.crc.specs.Table.{crcTable};
 ghost use Rattle.lists.specs.Lists.{greatest};
 ghost use Rattle.answer.specs.Staged.{tag};
 ghost use Rattle.answer.specs.Went.{Made};
 ghost use Rattle.table.specs.Table.{sectorsOf, pages, frees, sequence, listed, freed, Sized, Holds};
 ghost use Rattle.table.specs.Placed.{Placed};
-ghost use Rattle.found.specs.Found.{found};
-ghost use Rattle.found.specs.Places.{placeOf, Each, Lies};
+ghost use Rattle.found.specs.Places.{Each, Lies};
 ghost use Rattle.duplicates.specs.Duplicates.{lastMarks};
 ghost use Rattle.finishing.specs.Finishing.{freeings};
 ghost use Rattle.recover.specs.Recover.{lastStages, fromOrder, fromFinish, recovering, tooHigh};
 ghost use mathlib.Core.Bool.{false};
 
-// Stages 3 and 4, each on the items found as it begins: those of stage 3 stand in the first `n` of `places`.
-fn repair(
-    t: &[u32; 324],
-    image: &mut [u8],
-    lists: Table,
-    places: &mut [u16],
-    n: usize,
-    sorted: &mut [u16],
-    allowed: u64,
-) -> Went
-    requires { ⌜ (now t ≡ crcTable) × Sized lists × Placed (sectorsOf (now image)) (listed lists) (freed lists) × Each (Lies (now image)) (listed lists) × (take n (now places) ≡ map placeOf (found (listed lists) (now image))) × (n ≤ 2016) × (2016 ≤ length (now places)) × (2016 ≤ length (now sorted)) ⌝ }
+// Stages 3 and 4, each on the items found as it begins.
+fn repair(t: &[u32; 324], image: &mut [u8], lists: Table, sorted: &mut [u16], allowed: u64) -> Went
+    requires { ⌜ (now t ≡ crcTable) × Sized lists × Placed (sectorsOf (now image)) (listed lists) (freed lists) × Each (Lies (now image)) (listed lists) × (2016 ≤ length (now sorted)) ⌝ }
     ensures { λ r. ⌜ Made (lastStages (listed lists) (now (image .entry))) allowed (now (image .entry)) (now (image .exit)) r ⌝ }
 {
+    let mut places = [0u16; 2016];
+    let n = found::gather(t, image, lists, &mut places);
     let r = blobs::make_blobs(image, &places[..n], allowed);
     let Ran::Done(left) = r else {
         return Went::Short(Stage::Blobs);
     };
-    let m = found::gather(t, image, lists, places);
+    let m = found::gather(t, image, lists, &mut places);
     let r = duplicates::duplicate_stage(image, lists, &places[..m], sorted, left);
     let Ran::Done(rest) = r else {
         return Went::Short(Stage::Duplicates);
@@ -62,13 +54,11 @@ fn last_stages(t: &[u32; 324], image: &mut [u8], lists: Table, allowed: u64) -> 
     requires { ⌜ (now t ≡ crcTable) × Sized lists × Placed (sectorsOf (now image)) (listed lists) (freed lists) × Each (Lies (now image)) (listed lists) ⌝ }
     ensures { λ r. ⌜ Made (lastStages (listed lists) (now (image .entry))) allowed (now (image .entry)) (now (image .exit)) r ⌝ }
 {
-    let mut places = [0u16; 2016];
     let mut slots = [0u16; 4096];
-    let n = found::gather(t, image, lists, &mut places);
-    if quick::is_calm(image, &places[..n], &mut slots) {
+    if quick::is_calm(t, image, lists, &mut slots) {
         return close_full(image, lists, allowed);
     }
-    repair(t, image, lists, &mut places, n, &mut slots, allowed)
+    repair(t, image, lists, &mut slots, allowed)
 }
 
 // Stage 1 on the lists as they were scanned, then stages 3 and 4.
