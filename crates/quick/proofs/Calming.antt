@@ -1,8 +1,8 @@
 -- Items of which each is led to by its name, and of which each part of a blob fits, are calm. Assumes nothing.
 use mathlib.Core.Path.{_≡_, refl, sym, ap, _∙_}
-use mathlib.Core.Bool.{Bool, true, false, cond, not, _&&_, _||_}
+use mathlib.Core.Bool.{Bool, true, false, cond, not, _||_}
 use mathlib.Core.List.{List}
-use Prim.Native.Nat.{ℕ, suc, _+_, _-_, _*_, _^_, _<_, _≤_}
+use Prim.Native.Nat.{ℕ, _+_, _*_, _^_, _<_, _≤_}
 use native.Mathlib.Omega.{arith}
 use lib.Dec.{eqb, leb, lit<, ltb}
 use lib.ListN.{length, getD, length-take, List·getD-eq-default}
@@ -12,8 +12,9 @@ use Rattle.word.proofs.Bytes.{part-byte}
 use Rattle.entry.specs.States.{one}
 use Rattle.entry.specs.Fields.{chunkIndexOf, chunkSize, indexCount, indexSize, keyNumber, keyOf, namespaceOf, spanOf}
 use Rattle.page.proofs.Tests.{both-first, both-is, both-second}
-use Rattle.lists.specs.Lists.{sumOf}
-use Rattle.lists.proofs.Member.{true≢false}
+use Rattle.lists.specs.Lists.{some-of, sumOf}
+use Rattle.lists.proofs.Member.{_∈_, true≢false}
+use Rattle.lists.proofs.Search.{some-in}
 use Rattle.lists.proofs.Sums.{sum-ext, sum-ge, sum-le, sum-plus}
 use Rattle.lists.proofs.Maps.{sum-map}
 use Rattle.found.specs.Found.{Found, chunkOf, groupOf, indexOf, isChunk, isIndex, isPart, versionOf}
@@ -22,19 +23,20 @@ use Rattle.blobs.specs.Blobs.{sizeIn, versionIn}
 use Rattle.duplicates.specs.Duplicates.{ranked}
 use Rattle.quick.specs.Calm.{Calm, inGroup, partOf, tot}
 use Rattle.quick.specs.Names.{chunkName, chunkNumber, judged, nameOf}
-use Rattle.quick.specs.Slots.{rawAt, told}
-use Rattle.quick.specs.Fits.{Fits, Named, sumTo, toldRaw}
-use Rattle.quick.proofs.Counts.{one-le, one-true, pos-in}
+use Rattle.quick.specs.Slots.{EachSlot, rawAt, told}
+use Rattle.quick.specs.Fits.{Fits, Led, Named, called, sumTo, toldRaw}
+use Rattle.quick.proofs.Counts.{one-le, one-true, pos-in, sum-only}
+use Rattle.found.proofs.Each.{of-each}
 use Rattle.found.proofs.Keys.{key-lt}
 use Rattle.quick.proofs.Versions.{groupIn, index-not-chunk, index-part, pow-pos, split-in, version-group, versionIn-ne}
 use Rattle.quick.proofs.Idle.{calm-same}
-use Rattle.quick.proofs.Looking.{hit-in, hit-name, told-hit}
+use Rattle.quick.proofs.Looking.{told-name, told-slot}
 use Rattle.quick.proofs.Naming.{name-chunk, name-other, number-same}
-use Rattle.quick.proofs.Positions.{at-in, by-number, in-at, sum-once, sum-only, sum-to-ext, sum-to-one}
+use Rattle.quick.proofs.Numbers.{by-number, sum-to-ext, sum-to-one}
 
 -- f summed over the bytes of the items at the places
 abbrev over : List ℕ → List ℕ → (List ℕ → ℕ) → ℕ
-over l ps f = sumOf (λ (p : ℕ). f (itemAt l p .raw)) ps
+over l ps f = sumOf (λ (p : ℕ). f (rawAt l p)) ps
 
 part-judged : (r : List ℕ) → isPart r ≡ true → judged r ≡ true
 part-judged r e = go (leb 1 (namespaceOf r))
@@ -54,30 +56,21 @@ ranked-judged r e = (go (isChunk r) (both-first (not (isChunk r)) _ e), rw (both
     go true q = absurd (true≢false refl (sym q))
     go false q = refl
 
-module _ (t l ps : List ℕ) (small : (i : ℕ) → i < length ps → (chunkIndexOf (rawAt l ps i) < 256) × (keyNumber (keyOf (rawAt l ps i)) < 2 ^ 128))
-    (named : Named t l ps) (fits : (i : ℕ) → i < length ps → Fits t l ps (rawAt l ps i)) where
+module _ (t l ps : List ℕ) (small : (p : ℕ) → (chunkIndexOf (rawAt l p) < 256) × (keyNumber (keyOf (rawAt l p)) < 2 ^ 128))
+    (named : Named t l ps) (fits : (p : ℕ) → p ∈ ps → Fits t l (rawAt l p)) where
   -- ---- no two judged items have one name
-  abbrev called : ℕ → List ℕ → Bool
-  called k r = judged r && eqb (nameOf r) k
-
-  once : (k : ℕ) → over l ps (λ (r : List ℕ). one (called k r)) ≤ 1
-  once k =
-      sum-once 0 (λ (p : ℕ). called k (itemAt l p .raw)) ps (told t l ps k) (λ i h e.
-      let r = rawAt l ps i in
-      sym (named .led i h (both-first (judged r) _ e)) ∙ ap (told t l ps) (eqb-true (nameOf r) k (both-second (judged r) _ e)))
-
   -- an index of version v has the name of its group
-  index-called : (v i : ℕ) → i < length ps → indexOf v (rawAt l ps i) ≡ true → called (groupIn v) (rawAt l ps i) ≡ true
-  index-called v i h e =
-      let r = rawAt l ps i in
+  index-called : (v p : ℕ) → indexOf v (rawAt l p) ≡ true → called (groupIn v) (rawAt l p) ≡ true
+  index-called v p e =
+      let r = rawAt l p in
       let index = both-first (isIndex r) _ e in
-      let group = version-group v r (small i h .1) (eqb-true (versionOf r) v (both-second (isIndex r) _ e)) in
+      let group = version-group v r (small p .1) (eqb-true (versionOf r) v (both-second (isIndex r) _ e)) in
       both-is (judged r) _ (part-judged r (index-part r index)) (eq-eqb (nameOf r) (groupIn v) (name-other r (index-not-chunk r index) ∙ group))
 
   single : (g : ℕ) → over l ps (λ (r : List ℕ). one (inGroup g r)) ≤ 1
   single g =
-      let a = sum-le (λ (p : ℕ). one (inGroup g (itemAt l p .raw))) (λ (p : ℕ). one (called g (itemAt l p .raw))) ps (λ p m. one-le _ _ (each (itemAt l p .raw))) in
-      let b = once g in
+      let a = sum-le (λ (p : ℕ). one (inGroup g (rawAt l p))) (λ (p : ℕ). one (called g (rawAt l p))) ps (λ p m. one-le _ _ (each (rawAt l p))) in
+      let b = named .once g in
       omega arith
     where
       each : (r : List ℕ) → inGroup g r ≡ true → called g r ≡ true
@@ -87,135 +80,132 @@ module _ (t l ps : List ℕ) (small : (i : ℕ) → i < length ps → (chunkInde
 
   lone : (v : ℕ) → over l ps (λ (r : List ℕ). one (indexOf v r)) ≤ 1
   lone v =
-      let a = sum-le (λ (p : ℕ). one (indexOf v (itemAt l p .raw))) (λ (p : ℕ). one (called (groupIn v) (itemAt l p .raw))) ps (λ p m.
-      let i = in-at 0 ps p m in
-      rw (i .2) (one-le _ _ (index-called v (i .0) (i .1)))) in
-      let b = once (groupIn v) in
+      let a = sum-le (λ (p : ℕ). one (indexOf v (rawAt l p))) (λ (p : ℕ). one (called (groupIn v) (rawAt l p))) ps (λ p m. one-le _ _ (index-called v p)) in
+      let b = named .once (groupIn v) in
       omega arith
 
   not-both : (g : ℕ) → over l ps (λ (r : List ℕ). one (indexOf (versionIn g 0) r)) + over l ps (λ (r : List ℕ). one (indexOf (versionIn g 0x80) r)) ≤ 1
   not-both g =
-      let a = sum-plus (λ (p : ℕ). one (indexOf (versionIn g 0) (itemAt l p .raw))) (λ (p : ℕ). one (indexOf (versionIn g 0x80) (itemAt l p .raw))) ps in
-      let b = sum-le (λ (p : ℕ). one (indexOf (versionIn g 0) (itemAt l p .raw)) + one (indexOf (versionIn g 0x80) (itemAt l p .raw))) (λ (p : ℕ). one (called g (itemAt l p .raw))) ps (λ p m.
-      let i = in-at 0 ps p m in
-      rw (i .2) (two (i .0) (i .1) (indexOf (versionIn g 0) (rawAt l ps (i .0))) refl (indexOf (versionIn g 0x80) (rawAt l ps (i .0))) refl)) in
-      let c = once g in
+      let a = sum-plus (λ (p : ℕ). one (indexOf (versionIn g 0) (rawAt l p))) (λ (p : ℕ). one (indexOf (versionIn g 0x80) (rawAt l p))) ps in
+      let b = sum-le (λ (p : ℕ). one (indexOf (versionIn g 0) (rawAt l p)) + one (indexOf (versionIn g 0x80) (rawAt l p))) (λ (p : ℕ). one (called g (rawAt l p))) ps
+      (λ p m. two p (indexOf (versionIn g 0) (rawAt l p)) refl (indexOf (versionIn g 0x80) (rawAt l p)) refl) in
+      let c = named .once g in
       omega arith
     where
-      two : (i : ℕ) → i < length ps → (a : Bool) → indexOf (versionIn g 0) (rawAt l ps i) ≡ a → (b : Bool) → indexOf (versionIn g 0x80) (rawAt l ps i) ≡ b
-          → one a + one b ≤ one (called g (rawAt l ps i))
-      two i h false p false q = omega arith
-      two i h true p false q = rw (rw (split-in (2 ^ 128) g 0 pow-pos (omega arith)) at (index-called (versionIn g 0) i h p)) (omega arith)
-      two i h false p true q = rw (rw (split-in (2 ^ 128) g 128 pow-pos (omega arith)) at (index-called (versionIn g 0x80) i h q)) (omega arith)
-      two i h true p true q =
-          let r = rawAt l ps i in
-          let u = eqb-true (versionOf r) (versionIn g 0) (both-second (isIndex r) _ p) in
+      two : (p : ℕ) (a : Bool) → indexOf (versionIn g 0) (rawAt l p) ≡ a → (b : Bool) → indexOf (versionIn g 0x80) (rawAt l p) ≡ b → one a + one b ≤ one (called g (rawAt l p))
+      two p false e false q = omega arith
+      two p true e false q = rw (rw (split-in (2 ^ 128) g 0 pow-pos (omega arith)) at (index-called (versionIn g 0) p e)) (omega arith)
+      two p false e true q = rw (rw (split-in (2 ^ 128) g 128 pow-pos (omega arith)) at (index-called (versionIn g 0x80) p q)) (omega arith)
+      two p true e true q =
+          let r = rawAt l p in
+          let u = eqb-true (versionOf r) (versionIn g 0) (both-second (isIndex r) _ e) in
           let w = eqb-true (versionOf r) (versionIn g 0x80) (both-second (isIndex r) _ q) in
           absurd (versionIn-ne (2 ^ 128) g pow-pos (sym u ∙ w))
 
-  -- ---- what a name leads to
-  led-in : (k : ℕ) → 1 ≤ told t l ps k → told t l ps k - 1 < length ps
-  led-in k h = let a = hit-in l ps k (told t l ps k) (told-hit t l ps k h) in omega arith
+  -- ---- what a name leads to is one of the items
+  led-in : (k : ℕ) → 1 ≤ told t l k → told t l k ∈ ps
+  led-in k h =
+      let m = some-in (eqb (told t l k)) ps (told-slot t l k (λ (p : ℕ). some-of (eqb p) ps ≡ true) (named .only) h) in
+      rw (eqb-true (told t l k) (m .0) (m .2)) (m .1)
 
   has : (v : ℕ) → 1 ≤ over l ps (λ (r : List ℕ). one (partOf v r)) → 1 ≤ over l ps (λ (r : List ℕ). one (indexOf v r))
   has v h =
-      let x = pos-in (λ (p : ℕ). partOf v (itemAt l p .raw)) ps h in
-      let i = in-at 0 ps (x .0) (x .1) in
-      let e : partOf v (rawAt l ps (i .0)) ≡ true = rw (i .2) at (x .2) in
-      let r = rawAt l ps (i .0) in
-      go (i .0) (i .1) (isChunk r) refl (both-first (isPart r) _ e) (both-second (isPart r) _ e)
+      let x = pos-in (λ (p : ℕ). partOf v (rawAt l p)) ps h in
+      let r = rawAt l (x .0) in
+      go (x .0) (x .1) (isChunk r) refl (both-first (isPart r) _ (x .2)) (both-second (isPart r) _ (x .2))
     where
-      counted : (i : ℕ) → i < length ps → indexOf v (rawAt l ps i) ≡ true → 1 ≤ over l ps (λ (r : List ℕ). one (indexOf v r))
-      counted i k e =
-          let g = sum-ge (λ (p : ℕ). one (indexOf v (itemAt l p .raw))) ps (getD ps i 0) (at-in 0 ps i k) in
-          let z = one-true (indexOf v (rawAt l ps i)) e in
+      counted : (p : ℕ) → p ∈ ps → indexOf v (rawAt l p) ≡ true → 1 ≤ over l ps (λ (r : List ℕ). one (indexOf v r))
+      counted p m e =
+          let g = sum-ge (λ (q : ℕ). one (indexOf v (rawAt l q))) ps p m in
+          let z = one-true (indexOf v (rawAt l p)) e in
           omega arith
 
-      go : (i : ℕ) → i < length ps → (b : Bool) → isChunk (rawAt l ps i) ≡ b → (b || isIndex (rawAt l ps i)) ≡ true → eqb (versionOf (rawAt l ps i)) v ≡ true
+      go : (p : ℕ) → p ∈ ps → (b : Bool) → isChunk (rawAt l p) ≡ b → (b || isIndex (rawAt l p)) ≡ true → eqb (versionOf (rawAt l p)) v ≡ true
           → 1 ≤ over l ps (λ (r : List ℕ). one (indexOf v r))
-      go i k true q f w =
-          let c = fits i k .chunk q in
-          counted _ (led-in (groupOf (rawAt l ps i)) (c .some)) (rw (eqb-true (versionOf (rawAt l ps i)) v w) at (c .index))
-      go i k false q f w = counted i k (both-is (isIndex (rawAt l ps i)) _ f w)
+      go p m true q f w =
+          let c = fits p m .chunk q in
+          counted _ (led-in (groupOf (rawAt l p)) (c .some)) (rw (eqb-true (versionOf (rawAt l p)) v w) at (c .index))
+      go p m false q f w = counted p m (both-is (isIndex (rawAt l p)) _ f w)
 
-  -- ---- a version with an index at position m
-  module _ (v m : ℕ) (here : m < length ps) (index : indexOf v (rawAt l ps m) ≡ true) where
+  -- ---- a version with an index at place m
+  module _ (v m : ℕ) (here : m ∈ ps) (index : indexOf v (rawAt l m) ≡ true) where
     -- the group leads to it
-    to-index : told t l ps (groupIn v) ≡ suc m
+    to-index : told t l (groupIn v) ≡ m
     to-index =
-        let r = rawAt l ps m in
-        let e = index-called v m here index in
-        ap (told t l ps) (sym (eqb-true (nameOf r) (groupIn v) (both-second (judged r) _ e))) ∙ named .led m here (both-first (judged r) _ e)
+        let r = rawAt l m in
+        let e = index-called v m index in
+        ap (told t l) (sym (eqb-true (nameOf r) (groupIn v) (both-second (judged r) _ e))) ∙ of-each (Led t l) ps (named .led) m here (both-first (judged r) _ e) .1
 
-    of-index : (f : List ℕ → ℕ) → over l ps (λ (r : List ℕ). cond (indexOf v r) (f r) 0) ≡ f (rawAt l ps m)
+    of-index : (f : List ℕ → ℕ) → over l ps (λ (r : List ℕ). cond (indexOf v r) (f r) 0) ≡ f (rawAt l m)
     of-index f =
-        sum-only 0 (λ (p : ℕ). cond (indexOf v (itemAt l p .raw)) (f (itemAt l p .raw)) 0) ps m here (λ i h n. other i h n (indexOf v (rawAt l ps i)) refl) ∙ rw index
+        sum-only (λ (p : ℕ). called (groupIn v) (rawAt l p)) (λ (p : ℕ). cond (indexOf v (rawAt l p)) (f (rawAt l p)) 0) ps m here (index-called v m index) (named .once (groupIn v))
+        (λ p k e. other p e (indexOf v (rawAt l p)) refl)
+        ∙ rw index
       where
-        other : (i : ℕ) → i < length ps → (i ≡ m → ⊥) → (b : Bool) → indexOf v (rawAt l ps i) ≡ b → cond b (f (rawAt l ps i)) 0 ≡ 0
-        other i h n true e =
-            let r = rawAt l ps i in
-            let c = index-called v i h e in
-            let q = sym (named .led i h (both-first (judged r) _ c)) ∙ ap (told t l ps) (eqb-true (nameOf r) (groupIn v) (both-second (judged r) _ c)) ∙ to-index in
-            absurd (n (omega arith))
-        other i h n false e = refl
+        other : (p : ℕ) → called (groupIn v) (rawAt l p) ≡ false → (b : Bool) → indexOf v (rawAt l p) ≡ b → cond b (f (rawAt l p)) 0 ≡ 0
+        other p e true q = absurd (true≢false (index-called v p q) e)
+        other p e false q = refl
 
     -- a chunk of the version has a number that the index counts, and its name
-    chunk-here : (i : ℕ) → i < length ps → chunkOf v (rawAt l ps i) ≡ true
-        → (chunkNumber (rawAt l ps i) < indexCount (rawAt l ps m)) × (nameOf (rawAt l ps i) ≡ chunkName v (chunkNumber (rawAt l ps i)))
-    chunk-here i h e =
-        let r = rawAt l ps i in
+    chunk-here : (p : ℕ) → p ∈ ps → chunkOf v (rawAt l p) ≡ true
+        → (chunkNumber (rawAt l p) < indexCount (rawAt l m)) × (nameOf (rawAt l p) ≡ chunkName v (chunkNumber (rawAt l p)))
+    chunk-here p h e =
+        let r = rawAt l p in
         let chunk = both-first (isChunk r) _ e in
         let version = eqb-true (versionOf r) v (both-second (isChunk r) _ e) in
-        let c = fits i h .chunk chunk in
-        let q : told t l ps (groupOf r) - 1 ≡ m = let e = ap (told t l ps) (version-group v r (small i h .1) version) ∙ to-index in omega arith in
-        (rw q at (c .counted), rw version at (name-chunk r chunk (small i h .0)))
+        let c = fits p h .chunk chunk in
+        let q : told t l (groupOf r) ≡ m = ap (told t l) (version-group v r (small p .1) version) ∙ to-index in
+        (rw q at (c .counted), rw version at (name-chunk r chunk (small p .0)))
 
     -- chunk number j, which the table leads to
     module _ (f : List ℕ → ℕ) where
       abbrev counts : ℕ → ℕ
-      counts p = cond (chunkOf v (itemAt l p .raw)) (f (itemAt l p .raw)) 0
+      counts p = cond (chunkOf v (rawAt l p)) (f (rawAt l p)) 0
 
       abbrev numbered : ℕ → ℕ → ℕ
-      numbered j p = cond (eqb (chunkNumber (itemAt l p .raw)) j) (counts p) 0
+      numbered j p = cond (eqb (chunkNumber (rawAt l p)) j) (counts p) 0
 
-      one-number : (j : ℕ) → j < indexCount (rawAt l ps m) → sumOf (numbered j) ps ≡ f (toldRaw t l ps (chunkName v j))
+      -- a chunk of that number has its name
+      chunk-called : (j p : ℕ) → p ∈ ps → chunkOf v (rawAt l p) ≡ true → chunkNumber (rawAt l p) ≡ j → called (chunkName v j) (rawAt l p) ≡ true
+      chunk-called j p h e q =
+          let r = rawAt l p in
+          both-is (judged r) _ (part-judged r (chunk-part r (both-first (isChunk r) _ e))) (eq-eqb (nameOf r) (chunkName v j) (chunk-here p h e .1 ∙ ap (chunkName v) q))
+
+      one-number : (j : ℕ) → j < indexCount (rawAt l m) → sumOf (numbered j) ps ≡ f (toldRaw t l (chunkName v j))
       one-number j h =
-          let r = rawAt l ps m in
+          let r = rawAt l m in
           let version = eqb-true (versionOf r) v (both-second (isIndex r) _ index) in
           let c = rw version at (fits m here .index (both-first (isIndex r) _ index) .each j h) in
           let k = chunkName v j in
-          let i = told t l ps k - 1 in
+          let p = told t l k in
           let is = led-in k (c .some) in
-          let same : chunkNumber (rawAt l ps i) ≡ j = number-same v _ j (sym (chunk-here i is (c .chunk) .1) ∙ hit-name l ps k (told t l ps k) (told-hit t l ps k (c .some))) in
-          sum-only 0 (numbered j) ps i is (λ n g e. other n g e (eqb (chunkNumber (rawAt l ps n)) j) refl (chunkOf v (rawAt l ps n)) refl)
-          ∙ rw (eq-eqb (chunkNumber (rawAt l ps i)) j same, c .chunk)
+          let same : chunkNumber (rawAt l p) ≡ j = number-same v _ j (sym (chunk-here p is (c .chunk) .1) ∙ told-name t l k (c .some)) in
+          sum-only (λ (q : ℕ). called k (rawAt l q)) (numbered j) ps p is (chunk-called j p is (c .chunk) same) (named .once k)
+          (λ q g e. other q g e (eqb (chunkNumber (rawAt l q)) j) refl (chunkOf v (rawAt l q)) refl)
+          ∙ rw (eq-eqb (chunkNumber (rawAt l p)) j same, c .chunk)
         where
-          other : (n : ℕ) → n < length ps → (n ≡ told t l ps (chunkName v j) - 1 → ⊥) → (a : Bool) → eqb (chunkNumber (rawAt l ps n)) j ≡ a → (b : Bool) → chunkOf v (rawAt l ps n) ≡ b
-              → cond a (cond b (f (rawAt l ps n)) 0) 0 ≡ 0
-          other n g e true p true q =
-              let r = rawAt l ps n in
-              let own = named .led n g (part-judged r (chunk-part r (both-first (isChunk r) _ q))) in
-              let s : told t l ps (chunkName v j) ≡ suc n = ap (told t l ps) (ap (chunkName v) (sym (eqb-true (chunkNumber r) j p)) ∙ sym (chunk-here n g q .1)) ∙ own in
-              absurd (e (omega arith))
-          other n g e true p false q = refl
-          other n g e false p b q = refl
+          other : (p : ℕ) → p ∈ ps → called (chunkName v j) (rawAt l p) ≡ false → (a : Bool) → eqb (chunkNumber (rawAt l p)) j ≡ a → (b : Bool) → chunkOf v (rawAt l p) ≡ b
+              → cond a (cond b (f (rawAt l p)) 0) 0 ≡ 0
+          other p g e true x true y = absurd (true≢false (chunk-called j p g y (eqb-true (chunkNumber (rawAt l p)) j x)) e)
+          other p g e true x false y = refl
+          other p g e false x b y = refl
 
       -- all of its chunks are those that the table leads to
-      of-chunks : over l ps (λ (r : List ℕ). cond (chunkOf v r) (f r) 0) ≡ sumTo (λ j. f (toldRaw t l ps (chunkName v j))) (indexCount (rawAt l ps m))
+      of-chunks : over l ps (λ (r : List ℕ). cond (chunkOf v r) (f r) 0) ≡ sumTo (λ j. f (toldRaw t l (chunkName v j))) (indexCount (rawAt l m))
       of-chunks =
-          let c = indexCount (rawAt l ps m) in
-          sum-ext counts (λ (p : ℕ). cond (ltb (chunkNumber (itemAt l p .raw)) c) (counts p) 0) ps (λ p n. let i = in-at 0 ps p n in rw (i .2) (all (i .0) (i .1) (chunkOf v (rawAt l ps (i .0))) refl))
-          ∙ sym (by-number counts (λ (p : ℕ). chunkNumber (itemAt l p .raw)) ps c)
-          ∙ sum-to-ext (λ j. sumOf (numbered j) ps) (λ j. f (toldRaw t l ps (chunkName v j))) c one-number
+          let c = indexCount (rawAt l m) in
+          sum-ext counts (λ (p : ℕ). cond (ltb (chunkNumber (rawAt l p)) c) (counts p) 0) ps (λ p n. all p n (chunkOf v (rawAt l p)) refl)
+          ∙ sym (by-number counts (λ (p : ℕ). chunkNumber (rawAt l p)) ps c)
+          ∙ sum-to-ext (λ j. sumOf (numbered j) ps) (λ j. f (toldRaw t l (chunkName v j))) c one-number
         where
           none : (b : Bool) → cond {A = ℕ} b 0 0 ≡ 0
           none true = refl
           none false = refl
 
-          all : (i : ℕ) → i < length ps → (b : Bool) → chunkOf v (rawAt l ps i) ≡ b
-              → cond b (f (rawAt l ps i)) 0 ≡ cond (ltb (chunkNumber (rawAt l ps i)) (indexCount (rawAt l ps m))) (cond b (f (rawAt l ps i)) 0) 0
-          all i h true e = rw (lt-ltb _ _ (chunk-here i h e .0))
-          all i h false e = sym (none (ltb (chunkNumber (rawAt l ps i)) (indexCount (rawAt l ps m))))
+          all : (p : ℕ) → p ∈ ps → (b : Bool) → chunkOf v (rawAt l p) ≡ b
+              → cond b (f (rawAt l p)) 0 ≡ cond (ltb (chunkNumber (rawAt l p)) (indexCount (rawAt l m))) (cond b (f (rawAt l p)) 0) 0
+          all p h true e = rw (lt-ltb _ _ (chunk-here p h e .0))
+          all p h false e = sym (none (ltb (chunkNumber (rawAt l p)) (indexCount (rawAt l m))))
 
     one-cond : (b : Bool) → one b ≡ cond b 1 0
     one-cond true = refl
@@ -224,21 +214,14 @@ module _ (t l ps : List ℕ) (small : (i : ℕ) → i < length ps → (chunkInde
     count-here : over l ps (λ (r : List ℕ). cond (indexOf v r) (indexCount r) 0) ≡ over l ps (λ (r : List ℕ). one (chunkOf v r))
     count-here =
         of-index indexCount
-        ∙ sym (sum-ext (λ (p : ℕ). one (chunkOf v (itemAt l p .raw))) (λ (p : ℕ). cond (chunkOf v (itemAt l p .raw)) 1 0) ps (λ p n. one-cond (chunkOf v (itemAt l p .raw))) ∙ of-chunks (λ r. 1) ∙ sum-to-one (indexCount (rawAt l ps m)))
+        ∙ sym (sum-ext (λ (p : ℕ). one (chunkOf v (rawAt l p))) (λ (p : ℕ). cond (chunkOf v (rawAt l p)) 1 0) ps (λ p n. one-cond (chunkOf v (rawAt l p))) ∙ of-chunks (λ r. 1) ∙ sum-to-one (indexCount (rawAt l m)))
 
     size-here : over l ps (λ (r : List ℕ). cond (indexOf v r) (indexSize r) 0) ≡ over l ps (sizeIn v)
     unfolding sizeIn
     size-here =
-        let r = rawAt l ps m in
+        let r = rawAt l m in
         let version = eqb-true (versionOf r) v (both-second (isIndex r) _ index) in
-        of-index indexSize ∙ sym (of-chunks chunkSize ∙ ap (λ (w : ℕ). sumTo (λ j. chunkSize (toldRaw t l ps (chunkName w j))) (indexCount r)) (sym version) ∙ fits m here .index (both-first (isIndex r) _ index) .size)
-
-  -- the position of an index, where there is one
-  index-at : (v : ℕ) → 1 ≤ over l ps (λ (r : List ℕ). one (indexOf v r)) → (m : ℕ) × (m < length ps) × (indexOf v (rawAt l ps m) ≡ true)
-  index-at v h =
-      let x = pos-in (λ (p : ℕ). indexOf v (itemAt l p .raw)) ps h in
-      let i = in-at 0 ps (x .0) (x .1) in
-      (i .0, i .1, rw (i .2) at (x .2))
+        of-index indexSize ∙ sym (of-chunks chunkSize ∙ ap (λ (w : ℕ). sumTo (λ j. chunkSize (toldRaw t l (chunkName w j))) (indexCount r)) (sym version) ∙ fits m here .index (both-first (isIndex r) _ index) .size)
 
   calm-over : Calm (over l ps)
   calm-over =
@@ -247,8 +230,8 @@ module _ (t l ps : List ℕ) (small : (i : ℕ) → i < length ps → (chunkInde
         lone = lone;
         not-both = not-both;
         has = has;
-        count = λ v h. let i = index-at v h in count-here v (i .0) (i .1) (i .2);
-        size = λ v h. let i = index-at v h in size-here v (i .0) (i .1) (i .2);
+        count = λ v h. let x = pos-in (λ (p : ℕ). indexOf v (rawAt l p)) ps h in count-here v (x .0) (x .1) (x .2);
+        size = λ v h. let x = pos-in (λ (p : ℕ). indexOf v (rawAt l p)) ps h in size-here v (x .0) (x .1) (x .2);
       }
 
 -- the items are made of bytes
@@ -261,14 +244,26 @@ small-part l small a n i = go (ltb i n) refl
         let h : length (part l a n) ≤ i = simp length-take (omega (arith, ltb-false i n e)) in
         rw (List·getD-eq-default (part l a n) 0 h) (lit< tt)
 
-module _ (t l ps : List ℕ) (small : (j : ℕ) → getD l j 0 < 256) (named : Named t l ps) (fits : (i : ℕ) → i < length ps → Fits t l ps (rawAt l ps i)) where
-  small-item : (i : ℕ) → i < length ps → (chunkIndexOf (rawAt l ps i) < 256) × (keyNumber (keyOf (rawAt l ps i)) < 2 ^ 128)
+module _ (t l ps : List ℕ) (small : (j : ℕ) → getD l j 0 < 256) (named : Named t l ps) (fits : EachSlot (λ (p : ℕ). Fits t l (rawAt l p)) t) where
+  small-item : (p : ℕ) → (chunkIndexOf (rawAt l p) < 256) × (keyNumber (keyOf (rawAt l p)) < 2 ^ 128)
   unfolding itemAt
-  small-item i h =
-      let a = getD ps i 0 * 32 in
-      let n = spanOf (part l a 32) * 32 in
-      (small-part l small a n 3, key-lt (rawAt l ps i) (small-part l small a n))
+  small-item p =
+      let n = spanOf (part l (p * 32) 32) * 32 in
+      (small-part l small (p * 32) n 3, key-lt (rawAt l p) (small-part l small (p * 32) n))
+
+  -- a judged item stands in a slot, and any other is no part of a blob
+  all-fit : (p : ℕ) → p ∈ ps → Fits t l (rawAt l p)
+  all-fit p m = go (judged (rawAt l p)) refl
+    where
+      go : (b : Bool) → judged (rawAt l p) ≡ b → Fits t l (rawAt l p)
+      go true e =
+          let o = of-each (Led t l) ps (named .led) p m e in
+          rw (o .1) at (told-slot t l (nameOf (rawAt l p)) (λ (q : ℕ). Fits t l (rawAt l q)) fits (rw (o .1) (o .0)))
+      go false e =
+          let r = rawAt l p in
+          let no : isPart r ≡ true → ⊥ = λ q. true≢false (part-judged r q) e in
+          record { chunk = λ q. absurd (no (chunk-part r q)); index = λ q. absurd (no (index-part r q)) }
 
   pub calm-items : Calm (λ (f : List ℕ → ℕ). tot f (itemsAt l ps))
   calm-items =
-      calm-same (λ (f : List ℕ → ℕ). tot f (itemsAt l ps)) (over l ps) (λ f. sum-map (λ (x : Found). f (x .raw)) (itemAt l) ps) (calm-over t l ps small-item named fits)
+      calm-same (λ (f : List ℕ → ℕ). tot f (itemsAt l ps)) (over l ps) (λ f. sum-map (λ (x : Found). f (x .raw)) (itemAt l) ps) (calm-over t l ps small-item named all-fit)

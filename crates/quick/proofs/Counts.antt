@@ -3,12 +3,13 @@ use mathlib.Core.Path.{_≡_, refl}
 use mathlib.Core.Logic.{inl, inr}
 use mathlib.Core.Bool.{Bool, cond, false, true}
 use mathlib.Core.List.{List, [], _∷_}
-use Prim.Native.Nat.{_+_, _≤_}
+use Prim.Native.Nat.{ℕ, _+_, _≤_}
 use native.Mathlib.Omega.{arith}
 use lib.ListN.{length}
 use Rattle.entry.specs.States.{one}
 use Rattle.lists.specs.Lists.{keep, sumOf}
 use Rattle.lists.proofs.Member.{_∈_}
+use Rattle.lists.proofs.Sums.{sum-ge, sum-zero}
 
 -- a list of one
 pub length-one : {A : Type 0} (xs : List A) → length xs ≡ 1 → (x : A) × (xs ≡ x ∷ [])
@@ -18,6 +19,10 @@ length-one (x ∷ (y ∷ ys)) e = absurd (omega arith)
 
 pub one-true : (b : Bool) → b ≡ true → one b ≡ 1
 one-true b e = rw e
+
+one-none : (b : Bool) → one b ≤ 0 → b ≡ false
+one-none true h = absurd (omega arith)
+one-none false h = refl
 
 -- where the count is not 0, a member passes
 pub pos-in : {A : Type 0} (p : A → Bool) (xs : List A) → 1 ≤ sumOf (λ (x : A). one (p x)) xs → (x : A) × (x ∈ xs) × (p x ≡ true)
@@ -44,3 +49,18 @@ length-keep p (x ∷ xs) = go (p x) (length-keep p xs)
 pub one-le : (a b : Bool) → (a ≡ true → b ≡ true) → one a ≤ one b
 one-le true b h = rw (h refl) (omega arith)
 one-le false b h = omega arith
+
+-- where at most one member passes, and no other counts anything, the sum is what that one counts
+pub sum-only : {A : Type 0} (p : A → Bool) (f : A → ℕ) (xs : List A) (x : A) → x ∈ xs → p x ≡ true → sumOf (λ (y : A). one (p y)) xs ≤ 1 → ((y : A) → y ∈ xs → p y ≡ false → f y ≡ 0) → sumOf f xs ≡ f x
+unfolding sumOf
+sum-only p f [] x m e h g = absurd m
+sum-only p f (y ∷ ys) x (inl q) e h g =
+    let here = one-true (p y) (rw q at e) in
+    let rest = sum-zero f ys (λ z n. let k = sum-ge (λ (a : _). one (p a)) ys z n in g z (inr n) (one-none (p z) (omega arith))) in
+    rw q (omega arith)
+sum-only p f (y ∷ ys) x (inr m) e h g =
+    let there = sum-ge (λ (a : _). one (p a)) ys x m in
+    let here = one-true (p x) e in
+    let first = g y (inl refl) (one-none (p y) (omega arith)) in
+    let rest = sum-only p f ys x m e (omega arith) (λ z n. g z (inr n)) in
+    omega arith

@@ -1,37 +1,123 @@
--- One item more: it is passed over, or put at the free slot at which the search for its name ends. Assumes nothing.
-use mathlib.Core.Path.{_≡_, ap, _∙_}
-use mathlib.Core.Bool.{true, false}
-use mathlib.Core.List.{List}
-use Prim.Native.Nat.{ℕ, _+_, _-_, _<_, _≤_}
+-- One place more: its item is passed over, or put at the free slot at which the search for its name ends. Assumes nothing.
+use mathlib.Core.Path.{_≡_, refl, sym, ap, _∙_}
+use mathlib.Core.Logic.{inl}
+use mathlib.Core.Bool.{Bool, true, false}
+use mathlib.Core.List.{List, [], _∷_, _++_, append-assoc, append-nil}
+use Prim.Native.Nat.{ℕ, _+_, _<_, _≤_}
 use native.Mathlib.Numerals.{add-one}
 use native.Mathlib.Omega.{arith}
-use lib.ListN.{length, set}
-use borrow.Author.Count.{below-more}
-use borrow.Author.Tests.{eq-eqb, le-leb}
-use Rattle.page.proofs.Tests.{both-is}
-use Rattle.lists.proofs.Member.{true≢false}
+use lib.Dec.{eqb}
+use lib.ListN.{getD, length, length-set, set, take}
+use lib.Seq.{take-suc}
+use borrow.Author.Tests.{eq-eqb, eqb-true}
+use Rattle.entry.specs.States.{one}
+use Rattle.page.proofs.Tests.{both-first, both-second}
+use Rattle.lists.specs.Lists.{some-of, sumOf}
+use Rattle.lists.proofs.Member.{_∈_, in-left, in-right, true≢false}
+use Rattle.lists.proofs.Search.{some-in, some-is}
+use Rattle.lists.proofs.Sums.{sum-append, sum-zero}
+use Rattle.found.specs.Places.{Each, Placed}
+use Rattle.found.proofs.Each.{each-append, each-of, of-each}
 use Rattle.quick.specs.Names.{judged, nameOf, slotIn, slotOf}
-use Rattle.quick.specs.Slots.{rawAt, hit, gap}
-use Rattle.quick.specs.Fits.{Led}
-use Rattle.quick.proofs.Looking.{told-kept, told-new}
+use Rattle.quick.specs.Slots.{EachSlot, Leads, gap, rawAt, told}
+use Rattle.quick.specs.Fits.{Filled, Led, Named, called}
+use Rattle.quick.proofs.Looking.{each-set, gap-told, told-kept, told-new}
 
 slot-below : (k : ℕ) → slotOf k < 4096
 unfolding slotOf slotIn
 slot-below k = omega arith
 
-module _ (t l ps : List ℕ) (i : ℕ) (before : (j : ℕ) → j < i → Led t l ps j) where
-  pub passed : judged (rawAt l ps i) ≡ false → (j : ℕ) → j < i + 1 → Led t l ps j
-  passed e = below-more (Led t l ps) i before (λ q. absurd (true≢false q e))
+-- a table of free slots has no items
+module _ (t l : List ℕ) (free : (i : ℕ) → getD t i 0 ≡ 0) where
+  each-none : (P : ℕ → Type 0) → EachSlot P t
+  each-none P i h = let e = free i in absurd (omega arith)
 
-  pub filled : (s : ℕ) → 4096 ≤ length t → i < length ps → s < 4096 → s ≡ gap t l ps (nameOf (rawAt l ps i)) 4096 (slotOf (nameOf (rawAt l ps i)))
-      → (j : ℕ) → j < i + 1 → Led (set t s (i + 1)) l ps j
-  unfolding hit
-  filled s room here free e =
-      let k = nameOf (rawAt l ps i) in
-      let back : i + 1 - 1 ≡ i = omega arith in
-      let named : hit l ps k (i + 1) ≡ true = both-is _ _ (le-leb (i + 1) (length ps) (omega arith)) (eq-eqb (nameOf (rawAt l ps (i + 1 - 1))) k (ap (λ (j : ℕ). nameOf (rawAt l ps j)) back)) in
-      let new = told-new t l ps k (i + 1) (omega arith) named room (rw e at free) (slot-below k) in
-      rw e
-      (below-more (Led (set t (gap t l ps k 4096 (slotOf k)) (i + 1)) l ps) i
-      (λ j m q. let old = before j m q in told-kept t l ps (nameOf (rawAt l ps j)) (gap t l ps k 4096 (slotOf k)) (i + 1) (new .0) (omega arith) ∙ old)
-      (λ q. new .1 ∙ add-one i))
+  pub none-leads : 4096 ≤ length t → Leads t l
+  none-leads room = record { room = room; each = each-none (Placed l) }
+
+  pub none-named : Named t l []
+  unfolding Each sumOf
+  none-named = record { led = tt; once = λ k. omega arith; only = each-none (λ (q : ℕ). some-of (eqb q) [] ≡ true) }
+
+module _ (l ps : List ℕ) (p : ℕ) where
+  -- how often a name is called, with one place more
+  calls : (k : ℕ) → sumOf (λ (q : ℕ). one (called k (rawAt l q))) (ps ++ (p ∷ [])) ≡ sumOf (λ (q : ℕ). one (called k (rawAt l q))) ps + one (called k (rawAt l p))
+  unfolding sumOf
+  calls k = let e = sum-append (λ (q : ℕ). one (called k (rawAt l q))) ps (p ∷ []) in omega arith
+
+  -- the places of the table, with one more
+  still : (q : ℕ) → some-of (eqb q) ps ≡ true → some-of (eqb q) (ps ++ (p ∷ [])) ≡ true
+  still q e = let m = some-in (eqb q) ps e in some-is (eqb q) (ps ++ (p ∷ [])) (m .0) (in-left (m .0) ps (p ∷ []) (m .1)) (m .2)
+
+  last : some-of (eqb p) (ps ++ (p ∷ [])) ≡ true
+  last = some-is (eqb p) (ps ++ (p ∷ [])) p (in-right p ps (p ∷ []) (inl refl)) (eq-eqb p p refl)
+
+module _ (t l ps : List ℕ) (p : ℕ) (named : Named t l ps) where
+  named-passed : judged (rawAt l p) ≡ false → Named t l (ps ++ (p ∷ []))
+  unfolding Each
+  named-passed e =
+      record {
+        led = each-append (Led t l) ps (p ∷ []) (named .led) (λ q. absurd (true≢false q e), tt);
+        once = λ k. let n : one (called k (rawAt l p)) ≡ 0 = rw e in omega (arith, calls l ps p k, named .once k);
+        only = λ i h. still l ps p _ (named .only i h);
+      }
+
+  module _ (s : ℕ) (room : 4096 ≤ length t) (some : 1 ≤ p) (free : s < 4096) (e : s ≡ gap t l (nameOf (rawAt l p)) 4096 (slotOf (nameOf (rawAt l p)))) where
+    abbrev k : ℕ
+    k = nameOf (rawAt l p)
+
+    new : (getD t s 0 ≡ 0) × (told (set t s p) l k ≡ p)
+    new = rw e (told-new t l k p some (eq-eqb k k refl) room (rw e at free) (slot-below k))
+
+    -- its name was not there
+    unheard : (q : ℕ) → q ∈ ps → (b : Bool) → called k (rawAt l q) ≡ b → one b ≡ 0
+    unheard q m true c =
+        let r = rawAt l q in
+        let o = of-each (Led t l) ps (named .led) q m (both-first (judged r) _ c) in
+        let z = gap-told t l k (rw e at free) in
+        let w : told t l k ≡ q = ap (told t l) (sym (eqb-true (nameOf r) k (both-second (judged r) _ c))) ∙ o .1 in
+        absurd (omega (arith, o .0))
+    unheard q m false c = refl
+
+    once : (j : ℕ) → sumOf (λ (q : ℕ). one (called j (rawAt l q))) (ps ++ (p ∷ [])) ≤ 1
+    once j = go (called j (rawAt l p)) refl
+      where
+        go : (b : Bool) → called j (rawAt l p) ≡ b → sumOf (λ (q : ℕ). one (called j (rawAt l q))) (ps ++ (p ∷ [])) ≤ 1
+        go true c =
+            let same : k ≡ j = eqb-true k j (both-second (judged (rawAt l p)) _ c) in
+            let z = rw same at (sum-zero (λ (q : ℕ). one (called k (rawAt l q))) ps (λ q m. unheard q m (called k (rawAt l q)) refl)) in
+            let n : one (called j (rawAt l p)) ≡ 1 = rw c in
+            omega (arith, calls l ps p j)
+        go false c = let n : one (called j (rawAt l p)) ≡ 0 = rw c in omega (arith, calls l ps p j, named .once j)
+
+    named-put : Named (set t s p) l (ps ++ (p ∷ []))
+    unfolding Each
+    named-put =
+        record {
+          led = each-append (Led (set t s p) l) ps (p ∷ [])
+              (each-of (Led (set t s p) l) ps (λ q m j. let o = of-each (Led t l) ps (named .led) q m j in (o .0, told-kept t l (nameOf (rawAt l q)) s p (new .0) (omega (arith, o)) ∙ o .1)))
+              (λ j. (some, new .1), tt);
+          once = once;
+          only = each-set (λ (q : ℕ). some-of (eqb q) (ps ++ (p ∷ [])) ≡ true) t s p (omega arith) (λ i h. still l ps p _ (named .only i h)) (last l ps p);
+        }
+
+-- ---- as the code goes through the list of places
+pub filled-none : (t l ps : List ℕ) → Leads t l → Filled t t l (take 0 ps)
+filled-none t l ps h = record { leads = h; named = λ xs n. rw (append-nil xs) n }
+
+module _ (t u l ps : List ℕ) (i : ℕ) (here : i < length ps) (before : Filled t u l (take i ps)) where
+  front : (xs : List ℕ) → (xs ++ take i ps) ++ (getD ps i 0 ∷ []) ≡ xs ++ take (i + 1) ps
+  front xs = append-assoc xs (take i ps) (getD ps i 0 ∷ []) ∙ ap (λ (ys : List ℕ). xs ++ ys) (rw add-one (sym (take-suc ps i 0 here)))
+
+  pub passed : judged (rawAt l (getD ps i 0)) ≡ false → Filled t u l (take (i + 1) ps)
+  passed e = record { leads = before .leads; named = λ xs n. rw (front xs) at (named-passed u l (xs ++ take i ps) (getD ps i 0) (before .named xs n) e) }
+
+  module _ (placed : Placed l (getD ps i 0)) (s : ℕ) (free : s < 4096) (e : s ≡ gap u l (nameOf (rawAt l (getD ps i 0))) 4096 (slotOf (nameOf (rawAt l (getD ps i 0))))) where
+    pub put : Filled t (set u s (getD ps i 0)) l (take (i + 1) ps)
+    put =
+        let p = getD ps i 0 in
+        let room = before .leads .room in
+        record {
+          leads = record { room = simp length-set room; each = each-set (Placed l) u s p (omega arith) (before .leads .each) placed };
+          named = λ xs n. rw (front xs) at (named-put u l (xs ++ take i ps) p (before .named xs n) s room (omega (arith, placed .entries)) free e);
+        }

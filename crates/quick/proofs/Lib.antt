@@ -3,6 +3,7 @@ pub mod Versions
 pub mod Idle
 pub mod Looking
 pub mod Filling
-pub mod Positions
+pub mod Pages
+pub mod Numbers
 pub mod Naming
 pub mod Calming

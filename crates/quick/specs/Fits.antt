@@ -1,41 +1,50 @@
--- What is tested of the items: by it they are calm. Assumes nothing.
+-- What is filled and tested: by it the items are calm. Assumes nothing.
 use mathlib.Core.Path.{_≡_}
-use mathlib.Core.Bool.{true}
-use mathlib.Core.List.{List}
-use Prim.Native.Nat.{ℕ, zero, suc, _+_, _-_, _<_, _≤_}
-use lib.ListN.{length}
+use mathlib.Core.Bool.{Bool, true, _&&_}
+use mathlib.Core.List.{List, _++_}
+use Prim.Native.Nat.{ℕ, zero, suc, _+_, _<_, _≤_}
+use lib.Dec.{eqb}
+use Rattle.entry.specs.States.{one}
 use Rattle.entry.specs.Fields.{chunkSize, indexCount, indexSize}
+use Rattle.lists.specs.Lists.{some-of, sumOf}
 use Rattle.found.specs.Found.{isChunk, isIndex, versionOf, groupOf, indexOf, chunkOf}
+use Rattle.found.specs.Places.{Each}
 use Rattle.quick.specs.Names.{judged, nameOf, chunkNumber, chunkName}
-use Rattle.quick.specs.Slots.{rawAt, told}
+use Rattle.quick.specs.Slots.{rawAt, told, EachSlot, Leads}
 
 -- f 0 + .. + f (n - 1)
 unfoldable pub sumTo : (ℕ → ℕ) → ℕ → ℕ
 sumTo f zero = 0
 sumTo f (suc n) = sumTo f n + f n
 
-module _ (t l ps : List ℕ) where
+-- a judged item of the name k
+abbrev pub called : ℕ → List ℕ → Bool
+called k r = judged r && eqb (nameOf r) k
+
+module _ (t l : List ℕ) where
   -- the bytes of the item to which the table leads from the name k
   abbrev pub toldRaw : ℕ → List ℕ
-  toldRaw k = rawAt l ps (told t l ps k - 1)
+  toldRaw k = rawAt l (told t l k)
 
-  -- if item number i is judged, the table leads from its name to it
+  -- if the item at place p is judged, the table leads from its name to it
   abbrev pub Led : ℕ → Type 0
-  Led i = judged (rawAt l ps i) ≡ true → told t l ps (nameOf (rawAt l ps i)) ≡ suc i
+  Led p = judged (rawAt l p) ≡ true → (1 ≤ p) × (told t l (nameOf (rawAt l p)) ≡ p)
 
-  -- so no two of them have one name
-  pub record Named : Type 0 where
-    pub led : (i : ℕ) → i < length ps → Led i
+  -- the table has the judged items at the places ps and no others, and no two of them have one name
+  pub record Named (ps : List ℕ) : Type 0 where
+    pub led : Each Led ps
+    pub once : (k : ℕ) → sumOf (λ (p : ℕ). one (called k (rawAt l p))) ps ≤ 1
+    pub only : EachSlot (λ (p : ℕ). some-of (eqb p) ps ≡ true) t
 
   -- a chunk's namespace and key lead to an index of its version, which counts it
   pub record ChunkFits (r : List ℕ) : Type 0 where
-    pub some : 1 ≤ told t l ps (groupOf r)
+    pub some : 1 ≤ told t l (groupOf r)
     pub index : indexOf (versionOf r) (toldRaw (groupOf r)) ≡ true
     pub counted : chunkNumber r < indexCount (toldRaw (groupOf r))
 
   -- chunk number n of version v is there
   pub record HasChunk (v n : ℕ) : Type 0 where
-    pub some : 1 ≤ told t l ps (chunkName v n)
+    pub some : 1 ≤ told t l (chunkName v n)
     pub chunk : chunkOf v (toldRaw (chunkName v n)) ≡ true
 
   -- an index has each chunk that it counts, and their sizes sum up to its own
@@ -46,3 +55,8 @@ module _ (t l ps : List ℕ) where
   pub record Fits (r : List ℕ) : Type 0 where
     pub chunk : isChunk r ≡ true → ChunkFits r
     pub index : isIndex r ≡ true → IndexFits r
+
+-- the judged items at the places ps are put into the table t, which so becomes u
+pub record Filled (t u l ps : List ℕ) : Type 0 where
+  pub leads : Leads u l
+  pub named : (xs : List ℕ) → Named t l xs → Named u l (xs ++ ps)

@@ -1,4 +1,4 @@
-// A table of the judged items, by their names. A slot holds a position in the list of places, counted from 1, so that 0 is a free slot.
+// A table of the judged items, by their names. A slot holds an item's place, which is never 0, so that 0 is a free slot.
 use super::names::has_name;
 use super::names::is_judged;
 use super::names::name_at;
@@ -6,15 +6,17 @@ use super::names::slot_of;
 use found::Rank;
 ghost use mathlib.Core.Path.{_≡_};
 ghost use mathlib.Core.Bool.{true};
-ghost use Prim.Native.Nat.{_≤_, _<_};
-ghost use lib.ListN.{length};
+ghost use Prim.Native.Nat.{ℕ, _≤_};
+ghost use lib.ListN.{getD};
 ghost use Rattle.found.specs.Places.{Each, Placed};
 ghost use Rattle.found.specs.Ranks.{rankNumber};
 ghost use Rattle.quick.specs.Names.{slotOf};
-ghost use Rattle.quick.specs.Slots.{hit, told, gap};
-ghost use Rattle.quick.specs.Fits.{Named};
+ghost use Rattle.quick.specs.Slots.{told, gap, Leads};
+ghost use Rattle.quick.specs.Fits.{Filled};
 
-pub fn clear(slots: &mut [u16]) {
+pub fn clear(slots: &mut [u16])
+    ensures { λ r. ⌜ ((i : ℕ) → getD (now (slots .exit)) i 0 ≡ 0) ⌝ }
+{
     let mut i: usize = 0;
     while i < slots.len() {
         slots[i] = 0;
@@ -22,31 +24,20 @@ pub fn clear(slots: &mut [u16]) {
     }
 }
 
-// Whether a slot leads to an item of the name.
-fn is_hit(image: &[u8], places: &[u16], position: usize, name: Rank) -> bool
-    requires { ⌜ Each (Placed (now image)) (now places) × (1 ≤ position) ⌝ }
-    ensures { λ r. ⌜ r ≡ hit (now (image .entry)) (now (places .entry)) (rankNumber name) position ⌝ }
-{
-    if places.len() < position {
-        return false;
-    }
-    has_name(image, found::place_at(places, position - 1), name)
-}
-
-// The position, counted from 1, of the item to which the table leads from a name; 0 where it leads to none.
-pub fn find(image: &[u8], places: &[u16], slots: &[u16], name: Rank) -> usize
-    requires { ⌜ Each (Placed (now image)) (now places) × (4096 ≤ length (now slots)) ⌝ }
-    ensures { λ r. ⌜ (r ≡ told (now (slots .entry)) (now (image .entry)) (now (places .entry)) (rankNumber name)) × (r ≤ length (now (places .entry))) ⌝ }
+// The place of the item to which the table leads from a name; 0 where it leads to none.
+pub fn find(image: &[u8], slots: &[u16], name: Rank) -> usize
+    requires { ⌜ Leads (now slots) (now image) ⌝ }
+    ensures { λ r. ⌜ (r ≡ told (now (slots .entry)) (now (image .entry)) (rankNumber name)) × (1 ≤ r → Placed (now (image .entry)) r) ⌝ }
 {
     let mut i = slot_of(name);
     let mut n: usize = 0;
     while n < 4096 {
-        let position = slots[i] as usize;
-        if position == 0 {
+        let place = slots[i] as usize;
+        if place == 0 {
             return 0;
         }
-        if is_hit(image, places, position, name) {
-            return position;
+        if has_name(image, place, name) {
+            return place;
         }
         i = (i + 1) % 4096;
         n += 1;
@@ -55,18 +46,18 @@ pub fn find(image: &[u8], places: &[u16], slots: &[u16], name: Rank) -> usize
 }
 
 // The free slot at which the search for a name ends; 4096 where it finds the name, or no slot is free.
-fn free_slot(image: &[u8], places: &[u16], slots: &[u16], name: Rank) -> usize
-    requires { ⌜ Each (Placed (now image)) (now places) × (4096 ≤ length (now slots)) ⌝ }
-    ensures { λ r. ⌜ r ≡ gap (now (slots .entry)) (now (image .entry)) (now (places .entry)) (rankNumber name) 4096 (slotOf (rankNumber name)) ⌝ }
+fn free_slot(image: &[u8], slots: &[u16], name: Rank) -> usize
+    requires { ⌜ Leads (now slots) (now image) ⌝ }
+    ensures { λ r. ⌜ r ≡ gap (now (slots .entry)) (now (image .entry)) (rankNumber name) 4096 (slotOf (rankNumber name)) ⌝ }
 {
     let mut i = slot_of(name);
     let mut n: usize = 0;
     while n < 4096 {
-        let position = slots[i] as usize;
-        if position == 0 {
+        let place = slots[i] as usize;
+        if place == 0 {
             return i;
         }
-        if is_hit(image, places, position, name) {
+        if has_name(image, place, name) {
             return 4096;
         }
         i = (i + 1) % 4096;
@@ -75,10 +66,10 @@ fn free_slot(image: &[u8], places: &[u16], slots: &[u16], name: Rank) -> usize
     4096
 }
 
-// Puts each judged item into the table. Says whether no two have the same name: the table then leads from each one's name to it.
+// Puts each judged item into the table. Says whether none has a name that is there already: the table then leads from each one's name to it.
 pub fn fill(image: &[u8], places: &[u16], slots: &mut [u16]) -> bool
-    requires { ⌜ Each (Placed (now image)) (now places) × (length (now places) ≤ 2016) × (4096 ≤ length (now slots)) ⌝ }
-    ensures { λ r. ⌜ (r ≡ true → Named (now (slots .exit)) (now (image .entry)) (now (places .entry))) ⌝ }
+    requires { ⌜ Each (Placed (now image)) (now places) × Leads (now slots) (now image) ⌝ }
+    ensures { λ r. ⌜ (r ≡ true → Filled (now (slots .entry)) (now (slots .exit)) (now (image .entry)) (now (places .entry))) ⌝ }
 {
     let mut i: usize = 0;
     while i < places.len() {
@@ -87,11 +78,11 @@ pub fn fill(image: &[u8], places: &[u16], slots: &mut [u16]) -> bool
         if !is_judged(image, place) {
             continue;
         }
-        let free = free_slot(image, places, slots, name_at(image, place));
+        let free = free_slot(image, slots, name_at(image, place));
         if 4096 <= free {
             return false;
         }
-        slots[free] = i as u16;
+        slots[free] = place as u16;
     }
     true
 }

@@ -53,10 +53,8 @@ fn last_stages(t: &[u32; 324], image: &mut [u8], lists: Table, allowed: u64) -> 
     requires { ⌜ (now t ≡ crcTable) × Sized lists × Placed (sectorsOf (now image)) (listed lists) (freed lists) × Each (Lies (now image)) (listed lists) ⌝ }
     ensures { λ r. ⌜ Made (lastStages (listed lists) (now (image .entry))) allowed (now (image .entry)) (now (image .exit)) r ⌝ }
 {
-    let mut places = [0u16; 2016];
     let mut room = [0u16; 4096];
-    let n = found::gather(t, image, lists, &mut places);
-    if quick::is_calm(image, &places[..n], &mut room) {
+    if quick::is_calm(t, image, lists, &mut room) {
         return close_full(image, lists, allowed);
     }
     repair(t, image, lists, &mut room, allowed)

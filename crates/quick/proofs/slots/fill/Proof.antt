@@ -1,53 +1,60 @@
--- `quick::fill` meets its contract: each judged item passed is the one that its name leads to. Assumes nothing.
+-- `quick::fill` meets its contract: the judged items at the places passed are in the table. Assumes nothing.
 use mathlib.Core.Path.{refl, _≡_, sym, ap, _∙_}
 use mathlib.Core.Bool.{false}
-use Prim.Native.Nat.{ℕ, _-_, _<_, _≤_}
+use Prim.Native.Nat.{ℕ, _-_, _≤_}
 use native.Mathlib.Omega.{arith}
-use lib.ListN.{length-set, length}
+use lib.ListN.{length-set, length, take, getD}
+use lib.Seq.{take-all}
 use borrow.Author.Tests.{not-true}
 use borrow.Author.Needs.{needs}
 use Rattle.lists.proofs.Member.{true≢false}
-use Rattle.found.specs.Places.{itemAt, Placed}
+use Rattle.found.specs.Places.{Placed}
 use Rattle.found.proofs.Each.{each-at}
-use Rattle.quick.specs.Names.{judged, nameOf, slotOf}
-use Rattle.quick.specs.Slots.{rawAt, gap}
-use Rattle.quick.specs.Fits.{Led}
-use Rattle.quick.proofs.Filling.{passed, filled}
+use Rattle.quick.specs.Names.{judged}
+use Rattle.quick.specs.Slots.{rawAt}
+use Rattle.quick.specs.Fits.{Filled}
+use Rattle.quick.proofs.Filling.{filled-none, passed, put}
 use Rattle.quick.proofs.slots.fill.Statement.{statement}
 use Rattle.quick.proofs.slots.fill.Tie as tie
 
 abbrev Inv-loop : tie.InvT-loop
-Inv-loop image places slots₀ i₀ slots i = (length slots ≡ length slots₀) × (i ≤ length places) × ((j : ℕ) → j < i → Led slots image places j)
+Inv-loop image places slots₀ i₀ slots i = (length slots ≡ length slots₀) × (i ≤ length places) × Filled slots₀ slots image (take i places)
 
 abbrev μ-loop : tie.MeasureT-loop
 μ-loop image places slots₀ i₀ slots i = length places - i
 
+-- this turn's place
+there : (c : tie.After-place-at Inv-loop μ-loop) → let a = c .before .before .before .before .before .before .args in Placed (a .image .now) (getD (a .places .now) (c .before .before .loop .i) 0)
+there c =
+    let a = c .before .before .before .before .before .before in
+    each-at (Placed (a .args .image .now)) (a .args .places .now) 0 (a .pre .0) (c .before .before .loop .i) (omega arith)
+
 loop-holds : tie.Need-loop-holds Inv-loop μ-loop
-loop-holds c = (refl, omega arith, λ j h. absurd (omega arith))
+loop-holds c = let a = c .before .before .before in (refl, omega arith, filled-none (a .args .slots .now) (a .args .image .now) (a .args .places .now) (a .pre .1))
 
 is-judged-requires : tie.Need-is-judged-requires Inv-loop μ-loop
-is-judged-requires c κs =
-    let a = c .before .before .before .before .before .before in
-    rw (c .place-at .ensures) (each-at (Placed (a .args .image .now)) (a .args .places .now) 0 (a .pre .0) (c .before .before .loop .i) (omega arith))
+is-judged-requires c κs = rw (c .place-at .ensures) (there c)
 
 loop-again : tie.Need-loop-again Inv-loop μ-loop
 loop-again c =
     let l = c .before .before .before .before in
     let a = l .before .before .before .before .args in
-    let no : judged (rawAt (a .image .now) (a .places .now) (l .loop .i)) ≡ false = ap (λ (p : ℕ). judged (itemAt (a .image .now) p .raw)) (sym (c .before .before .place-at .ensures)) ∙ sym (c .before .is-judged .ensures) ∙ not-true _ (c .if1 .taken) in
-    (l .loop .inv .0, omega arith, passed (l .loop .slots) (a .image .now) (a .places .now) (l .loop .i) (l .loop .inv .2) no)
+    let no : judged (rawAt (a .image .now) (getD (a .places .now) (l .loop .i) 0)) ≡ false = ap (λ (p : ℕ). judged (rawAt (a .image .now) p)) (sym (c .before .before .place-at .ensures)) ∙ sym (c .before .is-judged .ensures) ∙ not-true _ (c .if1 .taken) in
+    (l .loop .inv .0, omega arith, passed (a .slots .now) (l .loop .slots) (a .image .now) (a .places .now) (l .loop .i) (omega arith) (l .loop .inv .2) no)
 
 name-at-requires : tie.Need-name-at-requires Inv-loop μ-loop
-name-at-requires c κs =
-    let p = c .before .before .before in
-    let a = p .before .before .before .before .before .before in
-    rw (p .place-at .ensures) (each-at (Placed (a .args .image .now)) (a .args .places .now) 0 (a .pre .0) (p .before .before .loop .i) (omega arith))
+name-at-requires c κs = let p = c .before .before .before in rw (p .place-at .ensures) (there p)
 
 free-slot-requires : tie.Need-free-slot-requires Inv-loop μ-loop
-free-slot-requires c κs = (c .before .before .before .before .before .before .before .before .before .before .pre .0, search needs)
+free-slot-requires c κs = c .before .before .before .before .before .before .loop .inv .2 .leads
 
 returns : tie.Need-returns Inv-loop μ-loop
 returns c = λ e. absurd (true≢false e refl)
+
+cast-slots : tie.Need-cast-slots Inv-loop μ-loop
+cast-slots c =
+    let p = c .before .before .before .before .before .before in
+    omega (arith, p .place-at .ensures, p .before .before .before .before .shared-slice-known2 .given (p .before .before .loop .i))
 
 loop-again-2 : tie.Need-loop-again-2 Inv-loop μ-loop
 loop-again-2 c =
@@ -56,12 +63,14 @@ loop-again-2 c =
     let a = l .before .before .before .before in
     let image = a .args .image .now in
     let places = a .args .places .now in
-    let name = c .before .before .name-at .ensures ∙ ap (λ (q : ℕ). nameOf (itemAt image q .raw)) (p .place-at .ensures) in
-    let free = c .before .free-slot .ensures ∙ ap (λ (k : ℕ). gap (l .loop .slots) image places k 4096 (slotOf k)) name in
-    (simp length-set (l .loop .inv .0), omega arith, filled (l .loop .slots) image places (l .loop .i) (l .loop .inv .2) (c .before .free-slot .result) (omega arith) (omega arith) (omega arith) free)
+    let name = rw (p .place-at .ensures) at (c .before .before .name-at .ensures) in
+    let free = rw name at (c .before .free-slot .ensures) in
+    (simp length-set (l .loop .inv .0), omega arith, rw (p .place-at .ensures) (put (a .args .slots .now) (l .loop .slots) image places (l .loop .i) (omega arith) (l .loop .inv .2) (there p) (c .before .free-slot .result) (omega arith) free))
 
 returns-2 : tie.Need-returns-2 Inv-loop μ-loop
-returns-2 c = λ e. record { led = λ j h. c .before .loop .inv .2 j (omega arith) }
+returns-2 c =
+    let l = c .before .loop in
+    λ e. rw (take-all (l .i) (c .before .before .before .before .before .args .places .now) (omega arith)) at (l .inv .2)
 
 pub fill-spec : {M : Type 1} → statement M
 fill-spec =
@@ -79,7 +88,7 @@ fill-spec =
     free-slot-requires
     (λ c. search needs)
     returns
-    (λ c. search needs)
+    cast-slots
     (λ c. search needs)
     (λ c. search needs)
     (λ c. search needs)

@@ -1,10 +1,9 @@
 -- `quick::chunk_fits` meets its contract: each test is one of the facts. Assumes nothing.
-use mathlib.Core.Path.{refl, _≡_, sym, ap, _∙_}
+use mathlib.Core.Path.{refl, _≡_, sym, _∙_}
 use mathlib.Core.Bool.{true}
-use Prim.Native.Nat.{ℕ, _-_, _<_, _≤_}
+use Prim.Native.Nat.{_<_, _≤_}
 use native.Mathlib.Omega.{arith}
 use lib.Dec.{eqb}
-use lib.ListN.{getD}
 use borrow.Author.Tests.{ltb-true, not-false}
 use borrow.Author.Needs.{needs}
 use Rattle.entry.specs.Fields.{indexCount}
@@ -12,22 +11,14 @@ use Rattle.page.proofs.Tests.{both-is}
 use Rattle.lists.proofs.Member.{true≢false}
 use Rattle.found.specs.Found.{isIndex, indexOf, versionOf}
 use Rattle.found.specs.Places.{itemAt, Placed}
-use Rattle.found.proofs.Each.{each-at}
 use Rattle.found.proofs.Reading.{byte-here}
 use Rattle.quick.specs.Names.{chunkNumber}
-use Rattle.quick.specs.Slots.{told}
 use Rattle.quick.proofs.tests.chunk_fits.Statement.{statement}
 use Rattle.quick.proofs.tests.chunk_fits.Tie as tie
 
 -- the place to which the table leads
-there : (c : tie.After-place-at) → Placed (c .before .before .before .before .before .before .before .args .image .now) (c .place-at .result)
-there c =
-    let a = c .before .before .before .before .before .before .before in
-    let f = c .before .before .find in
-    rw (c .place-at .ensures) (each-at (Placed (a .args .image .now)) (a .args .places .now) 0 (a .pre .0) (f .result - 1) (omega (arith, f .ensures .1, c .before .if1 .left)))
-
-find-requires : tie.Need-find-requires
-find-requires c κs = let p = c .before .before .before .before .pre in (p .0, p .1)
+there : (c : tie.Else1) → Placed (c .before .before .before .before .before .args .image .now) (c .before .find .result)
+there c = c .before .find .ensures .1 (omega (arith, c .if1 .left))
 
 returns : tie.Need-returns
 returns c = λ e. absurd (true≢false e refl)
@@ -45,9 +36,7 @@ returns-3 : tie.Need-returns-3
 returns-3 c = λ e. absurd (true≢false e refl)
 
 mul-index-count : tie.Need-mul-index-count
-mul-index-count c =
-    let p = c .before .before .before .before .before .before .before in
-    omega (arith, p .place-at .ensures, p .before .before .before .before .before .shared-slice-known2 .given (p .before .before .find .result - 1))
+mul-index-count c = let h = there (c .before .before .before .before .before .before .before) in omega (arith, h .room)
 
 index-count-requires : tie.Need-index-count-requires
 index-count-requires c κs = let h = there (c .before .before .before .before .before .before .before) in omega (arith, h .room)
@@ -58,32 +47,27 @@ returns-4 c =
     let s = n .before .before in
     let v = s .before .before in
     let i = v .before .before in
-    let p = i .before in
-    let f = p .before .before in
-    let a = f .before .before .before .before .before in
+    let f = i .before .before in
+    let a = f .before .before .before .before in
     let image = a .args .image .now in
-    let places = a .args .places .now in
     let r = itemAt image (a .args .place) .raw in
-    let x = itemAt image (p .place-at .result) .raw in
-    let q = f .find .ensures .0 ∙ ap (told (a .args .slots .now) image places) (f .before .group-at .ensures .0) in
-    let at = p .place-at .ensures ∙ ap (λ (k : ℕ). getD places (k - 1) 0) q in
+    let x = itemAt image (f .find .result) .raw in
+    let q = rw (f .before .group-at .ensures .0) at (f .find .ensures .0) in
     let same : eqb (versionOf x) (versionOf r) ≡ true = rw (v .version-at .ensures .0, s .before .version-at2 .ensures .0) at (sym (s .rank-same .ensures) ∙ not-false _ (n .before .if3 .left)) in
     let index : indexOf (versionOf r) x ≡ true = both-is (isIndex x) _ (sym (i .is-index .ensures) ∙ not-false _ (v .before .if2 .left)) same in
-    let count : c .wide .result ≡ indexCount x = c .wide .ensures .0 ∙ c .before .index-count .ensures ∙ sym (byte-here image (p .place-at .result) (there p) 28 (omega arith)) in
-    let some : 1 ≤ f .find .result = omega (arith, p .before .if1 .left) in
+    let count : c .wide .result ≡ indexCount x = c .wide .ensures .0 ∙ c .before .index-count .ensures ∙ sym (byte-here image (f .find .result) (there (i .before)) 28 (omega arith)) in
+    let some : 1 ≤ f .find .result = omega (arith, i .before .if1 .left) in
     λ e.
     let less : chunkNumber r < indexCount x = rw (n .number-at .ensures, count) at (ltb-true (n .number-at .result) (c .wide .result) e) in
-    record { some = rw q at some; index = rw at at index; counted = rw at at less }
+    record { some = rw q at some; index = rw q at index; counted = rw q at less }
 
 pub chunk-fits-spec : {M : Type 1} → statement M
 chunk-fits-spec =
     tie.close
     (tie.spec
     (λ c κs. search needs)
-    find-requires
-    returns
-    (λ c. search needs)
     (λ c κs. search needs)
+    returns
     is-index-requires
     returns-2
     version-at-requires

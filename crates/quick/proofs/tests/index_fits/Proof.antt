@@ -3,7 +3,6 @@ use mathlib.Core.Path.{refl, ap₂, _≡_, sym, ap, _∙_}
 use Prim.Native.Nat.{ℕ, _+_, _*_, _-_, _<_, _≤_}
 use native.Mathlib.Numerals.{add-one}
 use native.Mathlib.Omega.{arith}
-use lib.ListN.{getD}
 use borrow.Author.Count.{below-more}
 use borrow.Author.Tests.{eqb-true}
 use borrow.Author.Needs.{needs}
@@ -12,33 +11,30 @@ use Rattle.lists.proofs.Member.{true≢false}
 use Rattle.found.specs.Found.{versionOf}
 use Rattle.found.specs.Places.{itemAt, Placed}
 use Rattle.found.specs.Ranks.{rankNumber}
-use Rattle.found.proofs.Each.{each-at}
 use Rattle.found.proofs.Reading.{byte-here, le-at}
 use Rattle.quick.specs.Names.{chunkName}
+use Rattle.quick.specs.Slots.{rawAt}
 use Rattle.quick.specs.Fits.{HasChunk, sumTo, toldRaw}
 use Rattle.quick.proofs.tests.index_fits.Statement.{statement}
 use Rattle.quick.proofs.tests.index_fits.Tie as tie
 
 abbrev Inv-loop : tie.InvT-loop
-Inv-loop image places slots index v count size₀ n₀ size n =
-    (n ≤ count) × (size ≤ 65536 * n) × ((j : ℕ) → j < n → HasChunk slots image places (rankNumber v) j)
-    × (sumTo (λ j. chunkSize (toldRaw slots image places (chunkName (rankNumber v) j))) n ≡ size)
+Inv-loop image slots index v count size₀ n₀ size n =
+    (n ≤ count) × (size ≤ 65536 * n) × ((j : ℕ) → j < n → HasChunk slots image (rankNumber v) j)
+    × (sumTo (λ j. chunkSize (toldRaw slots image (chunkName (rankNumber v) j))) n ≡ size)
 
 abbrev μ-loop : tie.MeasureT-loop
-μ-loop image places slots index v count size₀ n₀ size n = count - n
+μ-loop image slots index v count size₀ n₀ size n = count - n
 
 -- the place of this turn's chunk
-there : (c : tie.After-place-at Inv-loop μ-loop) → Placed (c .before .before .before .before .before .before .before .before .before .before .before .args .image .now) (c .place-at .result)
-there c =
-    let a = c .before .before .before .before .before .before .before .before .before .before .before in
-    let f = c .before .before .chunk-at in
-    rw (c .place-at .ensures) (each-at (Placed (a .args .image .now)) (a .args .places .now) 0 (a .pre .0) (f .result - 1) (omega (arith, f .ensures .1, c .before .if1 .left)))
+there : (c : tie.Else1 Inv-loop μ-loop) → Placed (c .before .before .before .before .before .before .before .before .before .args .image .now) (c .before .chunk-at .result)
+there c = c .before .chunk-at .ensures (omega (arith, c .if1 .left)) .2
 
 mul-index-count : tie.Need-mul-index-count Inv-loop μ-loop
-mul-index-count c = let p = c .before .before .before .before .pre in omega (arith, p .2 .room)
+mul-index-count c = let p = c .before .before .before .pre in omega (arith, p .1 .room)
 
 index-count-requires : tie.Need-index-count-requires Inv-loop μ-loop
-index-count-requires c κs = let p = c .before .before .before .before .pre in omega (arith, p .2 .room)
+index-count-requires c κs = let p = c .before .before .before .pre in omega (arith, p .1 .room)
 
 loop-holds : tie.Need-loop-holds Inv-loop μ-loop
 unfolding sumTo
@@ -46,8 +42,8 @@ loop-holds c = (omega arith, omega arith, λ j h. absurd (omega arith), refl)
 
 chunk-at-requires : tie.Need-chunk-at-requires Inv-loop μ-loop
 chunk-at-requires c κs =
-    let p = c .before .before .before .before .before .before .before .before .pre in
-    (p .0, p .1, c .before .before .before .before .version-at .ensures .1, omega (arith, c .before .before .wide .ensures .1))
+    let p = c .before .before .before .before .before .before .before .pre in
+    (p .0, c .before .before .before .before .version-at .ensures .1, omega (arith, c .before .before .wide .ensures .1))
 
 returns : tie.Need-returns Inv-loop μ-loop
 returns c = λ e. absurd (true≢false e refl)
@@ -60,54 +56,50 @@ chunk-size-requires c κs = let h = there c in omega (arith, h .room)
 
 add-size : tie.Need-add-size Inv-loop μ-loop
 add-size c =
-    let l = c .before .before .before .before .before in
-    omega (arith, l .loop .inv .1, l .before .wide .ensures .1, c .before .before .before .before .loop-test .taken, c .chunk-size .ensures .1)
+    let l = c .before .before .before .before in
+    omega (arith, l .loop .inv .1, l .before .wide .ensures .1, c .before .before .before .loop-test .taken, c .chunk-size .ensures .1)
 
 loop-again : tie.Need-loop-again Inv-loop μ-loop
 unfolding sumTo
 loop-again c =
-    let p = c .before in
-    let f = p .before .before in
+    let f = c .before .before in
     let l = f .before .before in
-    let a = l .before .before .before .before .before .before .before .args in
+    let a = l .before .before .before .before .before .before .args in
     let image = a .image .now in
-    let places = a .places .now in
     let v = rankNumber (l .before .before .before .version-at .result) in
-    let some : 1 ≤ f .chunk-at .result = omega (arith, p .before .if1 .left) in
-    let got = f .chunk-at .ensures .0 some in
-    let at = p .place-at .ensures ∙ ap (λ (k : ℕ). getD places (k - 1) 0) (got .1) in
-    let size : c .chunk-size .result ≡ chunkSize (toldRaw (a .slots .now) image places (chunkName v (l .loop .n))) =
-    c .chunk-size .ensures .0 ∙ sym (le-at image (p .place-at .result) (there p) 24 2 (omega arith)) ∙ ap (λ (q : ℕ). chunkSize (itemAt image q .raw)) at in (
+    let some : 1 ≤ f .chunk-at .result = omega (arith, c .before .if1 .left) in
+    let got = f .chunk-at .ensures some in
+    let size : c .chunk-size .result ≡ chunkSize (toldRaw (a .slots .now) image (chunkName v (l .loop .n))) =
+    c .chunk-size .ensures .0 ∙ sym (le-at image (f .chunk-at .result) (there (c .before)) 24 2 (omega arith)) ∙ ap (λ (q : ℕ). chunkSize (rawAt image q)) (got .1) in (
       omega (arith, f .before .loop-test .taken),
       omega (arith, l .loop .inv .1, c .chunk-size .ensures .1),
-      below-more (HasChunk (a .slots .now) image places v) (l .loop .n) (l .loop .inv .2) (got .0),
+      below-more (HasChunk (a .slots .now) image v) (l .loop .n) (l .loop .inv .2) (got .0),
       rw add-one (ap₂ (λ (x y : ℕ). x + y) (l .loop .inv .3) (sym size)),
     )
 
 mul-index-size : tie.Need-mul-index-size Inv-loop μ-loop
-mul-index-size c = let p = c .before .before .before .before .before .before .before .before .pre in omega (arith, p .2 .room)
+mul-index-size c = let p = c .before .before .before .before .before .before .before .pre in omega (arith, p .1 .room)
 
 index-size-requires : tie.Need-index-size-requires Inv-loop μ-loop
-index-size-requires c κs = let p = c .before .before .before .before .before .before .before .before .pre in omega (arith, p .2 .room)
+index-size-requires c κs = let p = c .before .before .before .before .before .before .before .pre in omega (arith, p .1 .room)
 
 returns-2 : tie.Need-returns-2 Inv-loop μ-loop
 returns-2 c =
     let l = c .before .before in
     let w = l .before in
     let v = w .before .before in
-    let a = v .before .before .before .before in
+    let a = v .before .before .before in
     let image = a .args .image .now in
-    let places = a .args .places .now in
     let i = a .args .index in
     let r = itemAt image i .raw in
     let version : rankNumber (v .version-at .result) ≡ versionOf r = v .version-at .ensures .0 in
-    let count : w .wide .result ≡ indexCount r = w .wide .ensures .0 ∙ w .before .index-count .ensures ∙ sym (byte-here image i (a .pre .2) 28 (omega arith)) in
+    let count : w .wide .result ≡ indexCount r = w .wide .ensures .0 ∙ w .before .index-count .ensures ∙ sym (byte-here image i (a .pre .1) 28 (omega arith)) in
     let end : l .loop .n ≡ indexCount r = omega (arith, l .loop .inv .0, c .before .loop-test .left) in
-    let size : c .index-size .result ≡ indexSize r = c .index-size .ensures ∙ sym (le-at image i (a .pre .2) 24 4 (omega arith)) in
+    let size : c .index-size .result ≡ indexSize r = c .index-size .ensures ∙ sym (le-at image i (a .pre .1) 24 4 (omega arith)) in
     λ e.
     record {
       each = λ j h. rw version at (l .loop .inv .2 j (omega arith));
-      size = sym (ap₂ (λ (x m : ℕ). sumTo (λ j. chunkSize (toldRaw (a .args .slots .now) image places (chunkName x j))) m) version end)
+      size = sym (ap₂ (λ (x m : ℕ). sumTo (λ j. chunkSize (toldRaw (a .args .slots .now) image (chunkName x j))) m) version end)
           ∙ l .loop .inv .3 ∙ eqb-true (l .loop .size) (c .index-size .result) e ∙ size;
     }
 
@@ -124,8 +116,6 @@ index-fits-spec =
     loop-holds
     chunk-at-requires
     returns
-    (λ c. search needs)
-    (λ c κs. search needs)
     mul-chunk-size
     chunk-size-requires
     add-size

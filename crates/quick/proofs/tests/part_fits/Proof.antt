@@ -1,6 +1,5 @@
 -- `quick::part_fits` meets its contract: an item is a chunk, an index or neither. Assumes nothing.
 use mathlib.Core.Path.{sym, _∙_}
-use Prim.Native.Nat.{_-_}
 use borrow.Author.Needs.{needs}
 use Rattle.lists.proofs.Member.{true≢false}
 use Rattle.found.specs.Places.{itemAt}
@@ -10,7 +9,7 @@ use Rattle.quick.proofs.tests.part_fits.Tie as tie
 
 returns : tie.Need-returns
 returns c =
-    let a = c .before .before .before .before .before .before .args in
+    let a = c .before .before .before .before .before .args in
     let is = sym (c .before .before .is-chunk .ensures) ∙ c .before .if1 .taken in
     λ e. record { chunk = λ q. c .chunk-fits .ensures e; index = λ q. absurd (true≢false is (index-not-chunk (itemAt (a .image .now) (a .place) .raw) q)) }
 

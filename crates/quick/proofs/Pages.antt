@@ -1,0 +1,27 @@
+-- One page more: the places on it, and the table filled with their items. Assumes nothing.
+use mathlib.Core.Path.{_≡_, sym, _∙_}
+use mathlib.Core.List.{List, [], _∷_, _++_, append-nil, flatMap, map}
+use Prim.Native.Nat.{ℕ, _+_, _*_}
+use Rattle.flash.specs.Step.{sector}
+use Rattle.page.specs.Walk.{Laid, walk}
+use Rattle.table.specs.declared.Page.{Page}
+use Rattle.found.specs.Found.{found}
+use Rattle.found.specs.Places.{placeOf, Each, Lies, Placed}
+use Rattle.found.proofs.Finding.{found-placed, places-more}
+use Rattle.quick.specs.Fits.{Filled, Named}
+
+-- the table has the items of the pages before, where `pages` are those from here on, and `all` the places on all of them
+abbrev pub SoFar : List ℕ → List ℕ → List Page → List ℕ → Type 0
+SoFar t l pages all = (xs : List ℕ) × Named t l xs × (xs ++ map placeOf (found pages l) ≡ all)
+
+module _ (l : List ℕ) (p : Page) where
+  -- what the walk of its sector stores
+  abbrev pub placesOn : List ℕ
+  placesOn = map (λ (x : Laid). p .sector * 128 + 2 + x .entry) (walk (sector (p .sector) l) 126 0)
+
+  pub page-placed : Lies l p → Each (Placed l) placesOn
+  unfolding found flatMap Each
+  page-placed lies = rw (sym (append-nil placesOn) ∙ places-more l p [] []) (found-placed l (p ∷ []) (lies, tt))
+
+  pub page-filled : (t u : List ℕ) (pages : List Page) (all : List ℕ) → Filled t u l placesOn → SoFar t l (p ∷ pages) all → SoFar u l pages all
+  page-filled t u pages all f s = (s .0 ++ placesOn, f .named (s .0) (s .1), places-more l p pages (s .0) ∙ s .2)
