@@ -1,4 +1,5 @@
 pub mod Items
+pub mod Once
 pub mod Calm
 pub mod Plain
 pub mod Read
