@@ -1,5 +1,6 @@
 pub mod Items
 pub mod Once
+pub mod Walks
 pub mod Calm
 pub mod Plain
 pub mod Read
