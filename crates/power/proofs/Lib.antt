@@ -23,6 +23,7 @@ pub mod Complete
 pub mod Partly
 pub mod Recovery
 pub mod Zeros
+pub mod Erasing
 pub mod Programs
 pub mod Hits
 pub mod Unchanged
