@@ -1,5 +1,6 @@
 pub mod Items
 pub mod Calm
+pub mod Doomed
 pub mod Plain
 pub mod Read
 pub mod Totals
