@@ -2,6 +2,7 @@ pub mod Items
 pub mod Once
 pub mod Walks
 pub mod Calm
+pub mod Doomed
 pub mod Plain
 pub mod Read
 pub mod Totals
