@@ -21,6 +21,7 @@ pub mod Runs
 pub mod Ends
 pub mod Unmade
 pub mod Complete
+pub mod Marks
 pub mod Partly
 pub mod Recovery
 pub mod Zeros
@@ -32,6 +33,9 @@ pub mod Premises
 pub mod Accepted
 pub mod AllErased
 pub mod Reclaiming
+pub mod Listing
+pub mod Without
+pub mod Left
 pub mod Demand3
 pub mod Cuts
 pub mod Calls

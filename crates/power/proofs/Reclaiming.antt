@@ -41,7 +41,7 @@ use Rattle.power.proofs.Ends.{e-gone}
 use Rattle.power.proofs.State.{AllFree, Good, Side, Source, State}
 use Rattle.power.proofs.Premises.{good}
 use Rattle.power.proofs.Items.{listed-items}
-use Rattle.power.proofs.Partly.{mark-sector}
+use Rattle.power.proofs.Marks.{mark-sector}
 
 module _ (L : List ℕ) (S : Store L) where
   abbrev n : ℕ
