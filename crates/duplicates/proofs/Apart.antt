@@ -63,7 +63,7 @@ page-once l z p =
     go false = let a = sum-zero (λ (w : Laid). 0) (walk t 126 0) (λ w m. refl) in omega arith
 
 -- ---- the list
-found-once : {n : ℕ} {ps : List Page} {frees : List ℕ} (l : List ℕ) → Placed n ps frees → Once (found ps l)
+pub found-once : {n : ℕ} {ps : List Page} {frees : List ℕ} (l : List ℕ) → Placed n ps frees → Once (found ps l)
 unfolding found timesIn
 found-once {n} {ps} l h =
     record {
