@@ -1,6 +1,7 @@
 pub mod Items
 pub mod Calm
 pub mod Doomed
+pub mod Gone
 pub mod Plain
 pub mod Read
 pub mod Totals
