@@ -1,6 +1,6 @@
 -- What stage 3 erases where no two items but chunks share a name above namespace 0: whole items, version by version, the index first. Assumes nothing.
 use mathlib.Core.Path.{_∙_, _≡_, ap, ap₂, fun-ext, refl, sym}
-use mathlib.Core.Logic.{inl, ⊎-elim}
+use mathlib.Core.Logic.{inl, inr, ⊎-elim}
 use mathlib.Core.Bool.{Bool, _&&_, _||_, cond, false, true}
 use mathlib.Core.List.{List, [], _++_, _∷_, append-nil, flatMap, map}
 use Prim.Native.Nat.{_+_, _≤_, ℕ}
@@ -73,10 +73,16 @@ module _ (t u : (List ℕ → ℕ) → ℕ) (v : ℕ)
 abbrev pub versions : List Found → List ℕ
 versions fs = ascending (map (λ (x : Found). versionOf (x .raw)) (keep (λ (x : Found). isPart (x .raw)) fs))
 
-abbrev pub goes : List Found → ℕ → List Found
-goes fs v = cond (soundBy (λ (f : List ℕ → ℕ). tot f fs) v) [] (indices v fs ++ chunks v fs)
+abbrev pub soundIn : List Found → ℕ → Bool
+soundIn fs v = soundBy (λ (f : List ℕ → ℕ). tot f fs) v
 
--- and no part is both
+abbrev pub goes : List Found → ℕ → List Found
+goes fs v = cond (soundIn fs v) [] (indices v fs ++ chunks v fs)
+
+abbrev pub doomed : List Found → List Found
+doomed fs = flatMap (goes fs) (versions fs)
+
+-- no part is both index and chunk
 kinds : (v n : ℕ) (r : List ℕ) → cond (indexOf v r) n 0 + cond (chunkOf v r) n 0 ≡ cond (partOf v r) n 0
 kinds v n r = go (isIndex r) (isChunk r) (index-not-chunk r) (eqb (versionOf r) v)
   where
@@ -89,7 +95,7 @@ kinds v n r = go (isIndex r) (isChunk r) (index-not-chunk r) (eqb (versionOf r) 
 
 module _ (fs : List Found) where
   pub goes-in : (v : ℕ) (x : Found) → x ∈ goes fs v → (x ∈ fs) × (partOf v (x .raw) ≡ true)
-  goes-in v x m = go (soundBy (λ (f : List ℕ → ℕ). tot f fs) v) m
+  goes-in v x m = go (soundIn fs v) m
     where
       index : x ∈ indices v fs → (x ∈ fs) × (partOf v (x .raw) ≡ true)
       index n = let k = keep-in (λ (y : Found). indexOf v (y .raw)) fs x n in (k .0, part-index v (x .raw) (k .1))
@@ -101,17 +107,16 @@ module _ (fs : List Found) where
       go true n = absurd n
       go false n = ⊎-elim index chunk (in-append x (indices v fs) (chunks v fs) n)
 
-  parts-sum : (v : ℕ) (f : Found → ℕ) → sumOf f (indices v fs ++ chunks v fs) ≡ sumOf (λ (x : Found). cond (partOf v (x .raw)) (f x) 0) fs
-  parts-sum v f =
+  -- of a version that is not sound all parts go, each as often as it stands
+  pub goes-sum : (v : ℕ) → soundIn fs v ≡ false → (f : Found → ℕ)
+      → sumOf f (goes fs v) ≡ sumOf (λ (x : Found). cond (partOf v (x .raw)) (f x) 0) fs
+  goes-sum v e f =
+      rw e (
       sum-append f (indices v fs) (chunks v fs)
       ∙ ap₂ (λ (a b : ℕ). a + b) (sum-keep (λ (x : Found). indexOf v (x .raw)) f fs) (sum-keep (λ (x : Found). chunkOf v (x .raw)) f fs)
       ∙ sum-plus (λ (x : Found). cond (indexOf v (x .raw)) (f x) 0) (λ (x : Found). cond (chunkOf v (x .raw)) (f x) 0) fs
       ∙ sum-ext _ _ fs (λ x m. kinds v (f x) (x .raw))
-
-  -- of a version that is not sound all parts go, each as often as it stands
-  pub goes-sum : (v : ℕ) → soundBy (λ (f : List ℕ → ℕ). tot f fs) v ≡ false → (f : Found → ℕ)
-      → sumOf f (goes fs v) ≡ sumOf (λ (x : Found). cond (partOf v (x .raw)) (f x) 0) fs
-  goes-sum v e f = rw e (parts-sum v f)
+      )
 
   -- each version with a part is taken
   pub version-in : (v : ℕ) → 1 ≤ tot (λ (r : List ℕ). one (partOf v r)) fs → v ∈ versions fs
@@ -122,22 +127,15 @@ module _ (fs : List Found) where
       let n = in-keep (λ (x : Found). isPart (x .raw)) fs (p .0) (p .1) a in
       in-ascending _ v (rw b at (in-map (λ (x : Found). versionOf (x .raw)) (keep (λ (x : Found). isPart (x .raw)) fs) (p .0) n))
 
-erase-flat : (g : ℕ → List Found) (vs : List ℕ) → flatMap (λ (v : ℕ). eraseAll (g v)) vs ≡ eraseAll (flatMap g vs)
-unfolding eraseAll flatMap
-erase-flat g [] = refl
-erase-flat g (v ∷ vs) = ap (λ (r : List Step). eraseAll (g v) ++ r) (erase-flat g vs) ∙ sym (flatMap-append _ (g v) (flatMap g vs))
-
--- ---- stage 3
-module _ (fs : List Found) (tidy : Tidy fs) (single : (g : ℕ) → tot (λ (r : List ℕ). one (inGroup g r)) fs ≤ 1)
-    (short : (i : Found) → i ∈ fs → isIndex (i .raw) ≡ true → sound (versionOf (i .raw)) fs i ≡ false → spanOf (i .raw) ≡ 1) where
+  -- ---- by the indices of a version: none, or one
   count-is : (v : ℕ) (xs : List Found) → indices v fs ≡ xs → tot (λ (r : List ℕ). one (indexOf v r)) fs ≡ length xs
   count-is v xs e = sym (length-keep (λ (x : Found). indexOf v (x .raw)) fs) ∙ ap length e
 
-  sound-none : (v : ℕ) → indices v fs ≡ [] → soundBy (λ (f : List ℕ → ℕ). tot f fs) v ≡ false
+  sound-none : (v : ℕ) → indices v fs ≡ [] → soundIn fs v ≡ false
   unfolding soundBy
   sound-none v e = rw (count-is v [] e)
 
-  sound-one : (v : ℕ) (i : Found) → indices v fs ≡ i ∷ [] → soundBy (λ (f : List ℕ → ℕ). tot f fs) v ≡ sound v fs i
+  sound-one : (v : ℕ) (i : Found) → indices v fs ≡ i ∷ [] → soundIn fs v ≡ sound v fs i
   unfolding soundBy sound
   sound-one v i e =
       let a = sum-keep (λ (x : Found). indexOf v (x .raw)) (λ (x : Found). indexCount (x .raw)) fs in
@@ -146,32 +144,53 @@ module _ (fs : List Found) (tidy : Tidy fs) (single : (g : ℕ) → tot (λ (r :
       let d = sum-one (λ (x : Found). indexSize (x .raw)) (indices v fs) i e in
       rw (count-is v (i ∷ []) e, sym a ∙ c, sym b ∙ d)
 
-  -- the index that is erased takes one entry, as it has
-  dropped : (v : ℕ) (i : Found) → indices v fs ≡ i ∷ [] → sound v fs i ≡ false → dropVersion v i fs ≡ eraseAll (i ∷ chunks v fs)
-  unfolding dropVersion eraseAll flatMap
-  dropped v i e s =
-      let k = keep-in (λ (x : Found). indexOf v (x .raw)) fs i (rw e (inl refl)) in
-      let w = eqb-true (versionOf (i .raw)) v (both-second (isIndex (i .raw)) _ (k .1)) in
-      rw (short i (k .0) (both-first (isIndex (i .raw)) _ (k .1)) (rw w s))
+erase-flat : (g : ℕ → List Found) (vs : List ℕ) → flatMap (λ (v : ℕ). eraseAll (g v)) vs ≡ eraseAll (flatMap g vs)
+unfolding eraseAll flatMap
+erase-flat g [] = refl
+erase-flat g (v ∷ vs) = ap (λ (r : List Step). eraseAll (g v) ++ r) (erase-flat g vs) ∙ sym (flatMap-append _ (g v) (flatMap g vs))
 
-  judged : (v : ℕ) → judge fs v ≡ eraseAll (goes fs v)
-  unfolding judge judgeWith counting best better
-  judged v = go (indices v fs) refl
+-- ---- stage 3
+module _ (fs : List Found) (tidy : Tidy fs) (single : (g : ℕ) → tot (λ (r : List ℕ). one (inGroup g r)) fs ≤ 1) where
+  -- what stage 3 asks of an index is a fact of its version
+  pub sound-is : (v : ℕ) (i : Found) → i ∈ fs → indexOf v (i .raw) ≡ true → sound v fs i ≡ soundIn fs v
+  sound-is v i m e =
+      let a = lone fs tidy single v in
+      let b = count-is fs v (indices v fs) refl in
+      sym (sound-one fs v i (go (indices v fs) (in-keep (λ (x : Found). indexOf v (x .raw)) fs i m e) (omega arith)))
     where
-      one-of : (i : Found) → indices v fs ≡ i ∷ [] → (b : Bool) → sound v fs i ≡ b → cond b [] (dropVersion v i fs) ≡ eraseAll (cond b [] (i ∷ chunks v fs))
-      one-of i e true s = unfold eraseAll flatMap in refl
-      one-of i e false s = dropped v i e s
+      go : (xs : List Found) → i ∈ xs → length xs ≤ 1 → xs ≡ i ∷ []
+      go [] n h = absurd n
+      go (j ∷ []) (inl q) h = rw q
+      go (j ∷ []) (inr n) h = absurd n
+      go (j ∷ (k ∷ xs)) n h = absurd (omega arith)
 
-      go : (xs : List Found) → indices v fs ≡ xs → judgeWith v fs (best newer xs) ≡ eraseAll (cond (soundBy (λ (f : List ℕ → ℕ). tot f fs) v) [] (xs ++ chunks v fs))
-      go [] e = rw (sound-none v e)
-      go (i ∷ []) e = rw (sound-one v i e) (one-of i e (sound v fs i) refl)
-      go (i ∷ (j ∷ xs)) e = let a = lone fs tidy single v in let b = count-is v (i ∷ (j ∷ xs)) e in absurd (omega arith)
+  module _ (short : (i : Found) → i ∈ fs → isIndex (i .raw) ≡ true → sound (versionOf (i .raw)) fs i ≡ false → spanOf (i .raw) ≡ 1) where
+    -- the index that is erased takes one entry, as it has
+    dropped : (v : ℕ) (i : Found) → indices v fs ≡ i ∷ [] → sound v fs i ≡ false → dropVersion v i fs ≡ eraseAll (i ∷ chunks v fs)
+    unfolding dropVersion eraseAll flatMap
+    dropped v i e s =
+        let k = keep-in (λ (x : Found). indexOf v (x .raw)) fs i (rw e (inl refl)) in
+        let w = eqb-true (versionOf (i .raw)) v (both-second (isIndex (i .raw)) _ (k .1)) in
+        rw (short i (k .0) (both-first (isIndex (i .raw)) _ (k .1)) (rw w s))
 
-  -- the second pass makes no step: no key has two indices
-  pub blobs-are : blobSteps fs ≡ eraseAll (flatMap (goes fs) (versions fs))
-  unfolding blobSteps
-  blobs-are =
-      ap₂ (λ (a b : List Step). a ++ b) (flatMap-ext (judge fs) (λ (v : ℕ). eraseAll (goes fs v)) (versions fs) (λ v m. judged v))
-      (flatMap-none (older fs) (ascending (map (λ (x : Found). groupOf (x .raw)) (keep (λ (x : Found). isIndex (x .raw)) fs))) (λ g m. older-idle fs g (not-both fs tidy single g)))
-      ∙ append-nil _
-      ∙ erase-flat (goes fs) (versions fs)
+    judged : (v : ℕ) → judge fs v ≡ eraseAll (goes fs v)
+    unfolding judge judgeWith counting best better
+    judged v = go (indices v fs) refl
+      where
+        one-of : (i : Found) → indices v fs ≡ i ∷ [] → (b : Bool) → sound v fs i ≡ b → cond b [] (dropVersion v i fs) ≡ eraseAll (cond b [] (i ∷ chunks v fs))
+        one-of i e true s = unfold eraseAll flatMap in refl
+        one-of i e false s = dropped v i e s
+
+        go : (xs : List Found) → indices v fs ≡ xs → judgeWith v fs (best newer xs) ≡ eraseAll (cond (soundIn fs v) [] (xs ++ chunks v fs))
+        go [] e = rw (sound-none fs v e)
+        go (i ∷ []) e = rw (sound-one fs v i e) (one-of i e (sound v fs i) refl)
+        go (i ∷ (j ∷ xs)) e = let a = lone fs tidy single v in let b = count-is fs v (i ∷ (j ∷ xs)) e in absurd (omega arith)
+
+    -- the second pass makes no step: no key has two indices
+    pub blobs-are : blobSteps fs ≡ eraseAll (doomed fs)
+    unfolding blobSteps
+    blobs-are =
+        ap₂ (λ (a b : List Step). a ++ b) (flatMap-ext (judge fs) (λ (v : ℕ). eraseAll (goes fs v)) (versions fs) (λ v m. judged v))
+        (flatMap-none (older fs) (ascending (map (λ (x : Found). groupOf (x .raw)) (keep (λ (x : Found). isIndex (x .raw)) fs))) (λ g m. older-idle fs g (not-both fs tidy single g)))
+        ∙ append-nil _
+        ∙ erase-flat (goes fs) (versions fs)

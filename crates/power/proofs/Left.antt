@@ -24,7 +24,7 @@ use Rattle.found.specs.Found.{Found, chunkOf, indexOf, isPart, versionOf}
 use Rattle.blobs.specs.Blobs.{sizeIn}
 use Rattle.quick.specs.Calm.{partOf, tot}
 use Rattle.power.specs.Demand3.{total}
-use Rattle.power.proofs.Doomed.{soundBy}
+use Rattle.power.proofs.Doomed.{soundBy, soundBy-same}
 use Rattle.power.proofs.Lone.{Lone}
 use Rattle.power.proofs.Steps.{Final, freeAt}
 use Rattle.power.proofs.Without.{Without}
@@ -78,18 +78,12 @@ module _ (L l : List ℕ) (K : Left L l) where
           let d : soundOf L v ≡ false = rw e at (K .doomed r m .1) in
           rw z (sym d)
 
-      off : (b c : Bool) → c ≡ false → b && c ≡ false
-      off true c e = e
-      off false c e = refl
-
       no-part : ((r : List ℕ) → r ∈ K .gone → eqb (versionOf r) v ≡ false) → soundOf l v ≡ soundOf L v
-      no-part h =
-          let a = same-sum (λ (r : List ℕ). one (indexOf v r)) (λ r m. rw (off _ _ (h r m))) in
-          let b = same-sum (λ (r : List ℕ). cond (indexOf v r) (indexCount r) 0) (λ r m. rw (off _ _ (h r m))) in
-          let c = same-sum (λ (r : List ℕ). one (chunkOf v r)) (λ r m. rw (off _ _ (h r m))) in
-          let d = same-sum (λ (r : List ℕ). cond (indexOf v r) (indexSize r) 0) (λ r m. rw (off _ _ (h r m))) in
-          let e = same-sum (sizeIn v) (λ r m. unfold sizeIn in rw (off _ _ (h r m))) in
-          rw (a, b, c, d, e)
+      no-part h = soundBy-same (λ (f : List ℕ → ℕ). total f l) (λ (f : List ℕ → ℕ). total f L) v (λ g. same-sum (λ (r : List ℕ). cond (partOf v r) (g r) 0) (λ r m. off r (g r) (isPart r) (h r m)))
+        where
+          off : (r : List ℕ) (n : ℕ) (b : Bool) → eqb (versionOf r) v ≡ false → cond (b && eqb (versionOf r) v) n 0 ≡ 0
+          off r n true e = rw e
+          off r n false e = refl
 
       go : (b : Bool) → some-of (λ (r : List ℕ). eqb (versionOf r) v) (K .gone) ≡ b → soundOf l v ≡ soundOf L v
       go true q = let r = some-in (λ (r : List ℕ). eqb (versionOf r) v) (K .gone) q in headless-one (r .0) (r .1) (eqb-true _ v (r .2))

@@ -3,6 +3,8 @@ pub mod Once
 pub mod Walks
 pub mod Calm
 pub mod Doomed
+pub mod Gone
+pub mod First
 pub mod Plain
 pub mod Read
 pub mod Totals

@@ -20,7 +20,7 @@ use Rattle.lists.proofs.Sums.{sum-append}
 use Rattle.table.specs.Table.{sectorsOf}
 use Rattle.table.proofs.Sectors.{off, sumTo, sumTo-ext, sumTo-off}
 use Rattle.found.specs.Found.{Found, eraseAll}
-use Rattle.duplicates.proofs.Once.{Once, once-fewer, once-other}
+use Rattle.duplicates.proofs.Once.{Once, once-first, once-rest}
 use Rattle.quick.specs.Calm.{tot}
 use Rattle.power.specs.Demand3.{total}
 use Rattle.power.proofs.Erasing.{Erases, Stands, after, before, erases, erasure, stands-after}
@@ -90,14 +90,11 @@ module _ (l : List ℕ) (x : Found) (S : Stands l x) where
   one-cut k = ⊎-elim (λ e. inl (not-yet (run (take k (erasure x)) l) (erases l x S k) e)) (λ e. inr (rw e one-whole)) (before l x S k)
 
 -- ---- one after the other
-once-rest : (x : Found) (xs : List Found) → Once (x ∷ xs) → Once xs
-once-rest x xs o = once-fewer (x ∷ xs) xs (λ f. unfold sumOf in omega arith) o
-
 -- the rest stands still
 rest-stands : (l : List ℕ) (x : Found) (xs : List Found) → ((y : Found) → y ∈ (x ∷ xs) → Stands l y) → Once (x ∷ xs) → (y : Found) → y ∈ xs → Stands (run (erasure x) l) y
 rest-stands l x xs s o y k =
     stands-after l x (s x (inl refl)) y (s y (inr k))
-    (λ a b. true≢false (both-is _ _ (eq-eqb (x .sector) (y .sector) (sym a)) (eq-eqb (x .entry) (y .entry) (sym b))) (once-other (x ∷ []) xs x y o (inl refl) k))
+    (λ a b. true≢false (both-is _ _ (eq-eqb (x .sector) (y .sector) (sym a)) (eq-eqb (x .entry) (y .entry) (sym b))) (once-first x xs o y k))
 
 -- all of them
 pub erased-all : (xs : List Found) (l : List ℕ) → ((y : Found) → y ∈ xs → Stands l y) → Once xs → Without l xs (run (eraseAll xs) l)
