@@ -1,31 +1,28 @@
 -- What stages 3 and 4 leave of the store L, cut anywhere: its items but for some parts of unsound versions, of which the index goes first. Assumes nothing.
 use mathlib.Core.Path.{_∙_, _≡_, ap, refl, sym}
 use mathlib.Core.Logic.{_⊎_, inl, inr, ⊎-elim}
-use mathlib.Core.Bool.{Bool, _&&_, _||_, cond, false, not, true}
-use mathlib.Core.List.{List, [], _++_, _∷_, map}
-use Prim.Native.Nat.{_+_, _/_, _<_, _≤_, ℕ}
+use mathlib.Core.Bool.{Bool, _&&_, cond, false, true}
+use mathlib.Core.List.{List, [], _++_, map}
+use Prim.Native.Nat.{_+_, _/_, _≤_, ℕ}
 use native.Mathlib.Omega.{arith}
 use lib.Dec.{eqb}
 use lib.ListN.{length}
 use borrow.Author.Tests.{eqb-true}
 use Rattle.entry.specs.States.{one}
-use Rattle.entry.specs.Fields.{indexCount, indexSize}
-use Rattle.page.specs.State.{stateOf}
-use Rattle.flash.specs.Step.{sector}
 use Rattle.lists.specs.Lists.{some-of, sumOf}
 use Rattle.lists.proofs.Member.{_∈_, in-append, true≢false}
 use Rattle.lists.proofs.Maps.{map-in, sum-map}
 use Rattle.lists.proofs.Search.{some-in, some-is}
 use Rattle.lists.proofs.Sums.{sum-append, sum-zero}
-use Rattle.table.specs.Table.{active, freeing, frees, sectorsOf}
+use Rattle.table.specs.Table.{frees, sectorsOf}
 use Rattle.table.proofs.Sectors.{sumTo, sumTo-ext}
 use Rattle.table.proofs.Pages.{length-frees}
-use Rattle.found.specs.Found.{Found, chunkOf, indexOf, isPart, versionOf}
-use Rattle.blobs.specs.Blobs.{sizeIn}
-use Rattle.quick.specs.Calm.{partOf, tot}
+use Rattle.found.specs.Found.{Found, indexOf, isPart, versionOf}
+use Rattle.quick.specs.Calm.{partOf}
 use Rattle.power.specs.Demand3.{total}
 use Rattle.power.proofs.Doomed.{soundBy, soundBy-same}
 use Rattle.power.proofs.Lone.{Lone}
+use Rattle.power.proofs.Quiet.{Rest}
 use Rattle.power.proofs.Steps.{Final, freeAt}
 use Rattle.power.proofs.Without.{Without}
 
@@ -35,8 +32,7 @@ soundOf l v = soundBy (λ (f : List ℕ → ℕ). total f l) v
 
 pub record Left (L l : List ℕ) : Type 0 where
   pub len : length l ≡ length L
-  pub no-freeing : (u : ℕ) → u < sectorsOf l → freeing (stateOf (sector u l)) ≡ false
-  pub lone : Lone l
+  pub rest : Rest l
   pub free : length (frees L) ≤ length (frees l)
   -- the items that are gone: parts of unsound versions, no index of which is there any more
   pub gone : List (List ℕ)
@@ -46,12 +42,11 @@ pub record Left (L l : List ℕ) : Type 0 where
 
 -- an image that the finish stage ends with
 pub final-left : (L l : List ℕ) → Final L l → Left L l
-unfolding sumOf Lone
+unfolding sumOf
 final-left L l F =
     record {
       len = F .len;
-      no-freeing = F .rest .no-freeing;
-      lone = F .rest .only;
+      rest = F .rest;
       free = F .free;
       gone = [];
       sums = λ f. (let e = F .totals f in omega arith);
@@ -112,8 +107,11 @@ module _ (L l : List ℕ) (K : Left L l) where
     left-without =
         record {
           len = W .len ∙ K .len;
-          no-freeing = λ u h. rw (W .states u) (K .no-freeing u (rw n-same at h));
-          lone = λ u v hu hv eu ev. K .lone u v (rw n-same at hu) (rw n-same at hv) (rw (W .states u) at eu) (rw (W .states v) at ev);
+          rest =
+              record {
+                no-freeing = λ u h. rw (W .states u) (K .rest .no-freeing u (rw n-same at h));
+                lone = λ u v hu hv eu ev. K .rest .lone u v (rw n-same at hu) (rw n-same at hv) (rw (W .states u) at eu) (rw (W .states v) at ev);
+              };
           free = (let a = free-same in let b = K .free in omega arith);
           gone = map (λ (x : Found). x .raw) xs ++ K .gone;
           sums = λ f. (let a = sum-append f (map (λ (x : Found). x .raw) xs) (K .gone) in let b = sum-map f (λ (x : Found). x .raw) xs in let c = W .sums f in let d = K .sums f in omega arith);

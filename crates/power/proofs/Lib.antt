@@ -7,6 +7,7 @@ pub mod Gone
 pub mod First
 pub mod Plain
 pub mod Read
+pub mod Marks
 pub mod Totals
 pub mod Lone
 pub mod Quiet
@@ -23,7 +24,6 @@ pub mod Runs
 pub mod Ends
 pub mod Unmade
 pub mod Complete
-pub mod Marks
 pub mod Partly
 pub mod Recovery
 pub mod Zeros
@@ -38,6 +38,11 @@ pub mod Reclaiming
 pub mod Listing
 pub mod Without
 pub mod Left
+pub mod Judged
+pub mod Last
+pub mod Unsettled
+pub mod Settled
+pub mod General
 pub mod Demand3
 pub mod Cuts
 pub mod Calls

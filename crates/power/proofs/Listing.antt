@@ -44,7 +44,8 @@ module _ (l : List ℕ) (ps : List Page) (P : Lists l ps) where
   pub listed-total : (f : List ℕ → ℕ) → tot f (found ps l) ≡ total f l
   listed-total f = found-total f ps l ∙ P (walked f l) ∙ sym (total-walked f l)
 
-  listed-page : (p : Page) → p ∈ ps → (p .sector < sectorsOf l) × (isFree (stateOf (sector (p .sector) l)) ≡ false)
+  -- each is a page of the image, and stands there once
+  pub listed-page : (p : Page) → p ∈ ps → (p .sector < sectorsOf l) × (isFree (stateOf (sector (p .sector) l)) ≡ false)
   listed-page p m =
       let a = sum-ge (λ (q : Page). one (eqb (q .sector) (p .sector))) ps p m in
       let b = one-true (eqb (p .sector) (p .sector)) (eq-eqb (p .sector) (p .sector) refl) in
@@ -64,9 +65,12 @@ module _ (l : List ℕ) (ps : List Page) (P : Lists l ps) where
           → x ≡ record { sector = p .sector; sequence = p .seen .sequence; entry = i .entry; raw = i .raw } → Stands l x
       at p i h k e = rw e (h .0, rw (listed-items (p .sector) l (h .1)) at k)
 
-  pub listed-once : Once (found ps l)
-  listed-once = found-once ps l (λ u. rw (P (λ (v : ℕ). one (eqb v u)), sum-ext (λ (p : Page). one (inSector u p)) _ (pages l) (λ p m. as-one (inSector u p))) (once l u))
+  pub listed-count : (u : ℕ) → sumOf (λ (p : Page). one (inSector u p)) ps ≤ 1
+  listed-count u = rw (P (λ (v : ℕ). one (eqb v u)), sum-ext (λ (p : Page). one (inSector u p)) _ (pages l) (λ p m. as-one (inSector u p))) (once l u)
     where
       as-one : (b : Bool) → one b ≡ cond b 1 0
       as-one true = refl
       as-one false = refl
+
+  pub listed-once : Once (found ps l)
+  listed-once = found-once ps l listed-count

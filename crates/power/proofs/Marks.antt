@@ -1,5 +1,6 @@
 -- A page marked Full, or Freeing: the step on its sector alone, and what the page marked Full reads as. Assumes nothing.
 use mathlib.Core.Path.{_∙_, _≡_, ap, sym}
+use mathlib.Core.Logic.{_⊎_}
 use mathlib.Core.List.{List, [], _∷_}
 use Prim.Native.Nat.{_*_, _+_, _<_, ℕ}
 use native.Mathlib.Nat.{add-zero}
@@ -8,7 +9,7 @@ use lib.ListN.{length}
 use Rattle.page.specs.declared.state.PageState.the-variants.{Active, Full}
 use Rattle.page.specs.State.{sequenceOf, stateOf}
 use Rattle.page.specs.Walk.{itemsOf}
-use Rattle.flash.specs.Step.{run, sector}
+use Rattle.flash.specs.Step.{Step, run, sector}
 use Rattle.flash.proofs.Erased.{length-sector}
 use Rattle.flash.proofs.Frame.{AllIn, In, sector-kept}
 use Rattle.flash.proofs.Lent.{Fit, sector-local}
@@ -25,6 +26,10 @@ pub mark-sector : (t b : ℕ) (l : List ℕ) → sector t (run (pageState (t * 4
 mark-sector t b l =
     ap (λ (k : ℕ). sector t (run (pageState k b ∷ []) l)) (sym (add-zero (t * 4096)))
     ∙ sector-local t (pageState 0 b ∷ []) l (every-one (Fit 4096) _ (omega arith))
+
+-- no step, or one that marks an Active page Full
+abbrev pub Marks : List ℕ → List Step → Type 0
+Marks l ss = (ss ≡ []) ⊎ ((t : ℕ) × (t < sectorsOf l) × (stateOf (sector t l) ≡ Active) × (ss ≡ markFull t ∷ []))
 
 -- ---- an Active page marked Full
 module _ (l : List ℕ) (t : ℕ) (h : t < sectorsOf l) (mk : stateOf (sector t l) ≡ Active) where

@@ -5,11 +5,9 @@ use mathlib.Core.Logic.{_⊎_, inl, inr, ⊎-elim}
 use mathlib.Core.Bool.{Bool, cond, false, true}
 use mathlib.Core.Option.{some}
 use mathlib.Core.List.{List, [], _++_, _∷_}
-use Prim.Native.Nat.{_*_, _+_, _<_, _≤_, suc, zero, ℕ}
-use native.Mathlib.Nat.{add-zero}
-use native.Mathlib.Omega.{arith}
+use Prim.Native.Nat.{_<_, _≤_, suc, zero, ℕ}
 use lib.Dec.{eqb}
-use lib.ListN.{getD, length, take}
+use lib.ListN.{getD, take}
 use borrow.Author.Tests.{eqb-false, eqb-true}
 use Rattle.entry.specs.States.{one}
 use Rattle.page.specs.declared.state.PageState.{PageState}
@@ -18,11 +16,8 @@ use Rattle.page.specs.Record.{recordOf}
 use Rattle.page.specs.State.{isFree, stateOf}
 use Rattle.page.specs.Walk.{Laid, itemsOf}
 use Rattle.flash.specs.Step.{Step, erase, run, sector}
-use Rattle.flash.proofs.Erased.{length-sector}
-use Rattle.flash.proofs.Frame.{AllIn, In, length-run, sector-kept}
-use Rattle.flash.proofs.Lent.{Fit, sector-local}
-use Rattle.flash.proofs.Every.{every-one}
-use Rattle.item.specs.Mark.{markFull, pageState}
+use Rattle.flash.proofs.Frame.{length-run, sector-kept}
+use Rattle.item.specs.Mark.{markFull}
 use Rattle.relocate.specs.Move.{moving}
 use Rattle.lists.specs.Lists.{keep, sumOf}
 use Rattle.lists.proofs.Sums.{sum-ext}
