@@ -15,7 +15,7 @@ use Rattle.power.specs.Demand3.{failing, recoveries}
 use Rattle.power.specs.General.{General}
 use Rattle.power.proofs.Demand3.{safe-by}
 use Rattle.power.proofs.General.{general-cuts}
-use Rattle.power.proofs.Settled.{unsettled}
+use Rattle.power.proofs.Stores.{unsettled}
 
 module _ (Torn : Tearing) (atomic : Atomic Torn) where
   -- one step more

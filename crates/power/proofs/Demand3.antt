@@ -8,7 +8,7 @@ use Rattle.power.specs.Demand3.{Demand3, Safe, Store, failing, held, rec
 use Rattle.power.specs.General.{Leaves}
 use Rattle.power.proofs.General.{general-cuts}
 use Rattle.power.proofs.Plain.{plain-same}
-use Rattle.power.proofs.Settled.{no-step, unsettled}
+use Rattle.power.proofs.Stores.{no-step, unsettled}
 
 unmoved : (L : List ℕ) → Store L → recovered L ≡ L
 unfolding recovered recovery run

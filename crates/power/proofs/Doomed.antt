@@ -16,14 +16,13 @@ use Rattle.lists.specs.Lists.{ascending, best, better, keep, sumOf}
 use Rattle.lists.proofs.Member.{_∈_, in-append, true≢false}
 use Rattle.lists.proofs.Search.{in-keep, keep-in}
 use Rattle.lists.proofs.Sums.{sum-append, sum-ext, sum-keep, sum-one, sum-plus}
-use Rattle.lists.proofs.Maps.{flatMap-append, flatMap-ext, flatMap-none, in-map}
-use Rattle.lists.proofs.Ascending.{in-ascending}
+use Rattle.lists.proofs.Maps.{flatMap-append, flatMap-ext, flatMap-none}
 use Rattle.found.specs.Found.{Found, chunkOf, chunks, eraseAll, groupOf, indexOf, isChunk, isIndex, isPart, newer, versionOf}
 use Rattle.blobs.specs.Blobs.{blobSteps, counting, dropVersion, indices, judge, judgeWith, older, sizeIn, sound}
 use Rattle.duplicates.proofs.Once.{refuted}
 use Rattle.quick.specs.Calm.{inGroup, partOf, tot}
 use Rattle.quick.proofs.Idle.{older-idle}
-use Rattle.quick.proofs.Counts.{length-keep, pos-in}
+use Rattle.quick.proofs.Counts.{length-keep}
 use Rattle.quick.proofs.Versions.{index-not-chunk, index-part}
 use Rattle.power.proofs.Calm.{Tidy, lone, not-both}
 
@@ -117,15 +116,6 @@ module _ (fs : List Found) where
       ∙ sum-plus (λ (x : Found). cond (indexOf v (x .raw)) (f x) 0) (λ (x : Found). cond (chunkOf v (x .raw)) (f x) 0) fs
       ∙ sum-ext _ _ fs (λ x m. kinds v (f x) (x .raw))
       )
-
-  -- each version with a part is taken
-  pub version-in : (v : ℕ) → 1 ≤ tot (λ (r : List ℕ). one (partOf v r)) fs → v ∈ versions fs
-  version-in v h =
-      let p = pos-in (λ (x : Found). partOf v (x .raw)) fs h in
-      let a = both-first (isPart (p .0 .raw)) _ (p .2) in
-      let b = eqb-true (versionOf (p .0 .raw)) v (both-second (isPart (p .0 .raw)) _ (p .2)) in
-      let n = in-keep (λ (x : Found). isPart (x .raw)) fs (p .0) (p .1) a in
-      in-ascending _ v (rw b at (in-map (λ (x : Found). versionOf (x .raw)) (keep (λ (x : Found). isPart (x .raw)) fs) (p .0) n))
 
   -- ---- by the indices of a version: none, or one
   count-is : (v : ℕ) (xs : List Found) → indices v fs ≡ xs → tot (λ (r : List ℕ). one (indexOf v r)) fs ≡ length xs

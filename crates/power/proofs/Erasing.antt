@@ -6,7 +6,7 @@ use mathlib.Core.List.{List}
 use Prim.Native.Nat.{_*_, _+_, _<_, _≤_, ℕ}
 use native.Mathlib.Omega.{arith}
 use lib.Dec.{eqb}
-use lib.ListN.{drop, getD, length, take}
+use lib.ListN.{drop, length, take}
 use lib.Seq.{take-all, take-length}
 use borrow.Author.Tests.{eqb-false, eqb-true, ne-eqb}
 use Rattle.word.specs.Number.{part}
@@ -14,27 +14,26 @@ use Rattle.entry.specs.States.{stateAt}
 use Rattle.entry.specs.Fields.{entryAt, spanOf}
 use Rattle.page.specs.declared.state.PageState.{PageState}
 use Rattle.page.specs.declared.state.PageState.the-variants.{Active, Blank, Corrupt, Freeing, Full}
-use Rattle.page.specs.State.{isFree, sequenceOf, stateOf}
+use Rattle.page.specs.State.{isFree, stateOf}
 use Rattle.page.specs.Walk.{Laid, isItem, itemsOf, laidAt}
 use Rattle.flash.specs.Step.{Step, run, sector}
 use Rattle.flash.proofs.Erased.{length-sector}
 use Rattle.flash.proofs.Every.{every-take}
 use Rattle.flash.proofs.Frame.{AllIn, In, drop-kept, length-run, part-kept, sector-kept}
 use Rattle.flash.proofs.Lent.{Fit, sector-local, take-shift}
-use Rattle.flash.proofs.Lower.{fit-le}
 use Rattle.flash.proofs.Order.{le-or-gt}
 use Rattle.item.specs.States.{unmarking}
 use Rattle.item.specs.Erase.{erasing}
 use Rattle.item.proofs.Local.{erasing-shift, unmarking-fit}
 use Rattle.item.proofs.Safe.{erasing-in}
-use Rattle.item.proofs.Spans.{unmarking-before, unmarking-ends, unmarking-every, unmarking-in, unmarking-keeps}
+use Rattle.item.proofs.Spans.{unmarking-before, unmarking-ends, unmarking-in, unmarking-keeps}
 use Rattle.lists.proofs.Search.{in-keep}
 use Rattle.lists.proofs.Member.{_∈_, true≢false}
 use Rattle.table.specs.Table.{sectorsOf}
 use Rattle.found.specs.Found.{Found}
 use Rattle.power.proofs.Items.{Real, is-item, raw-span, walk-in}
 use Rattle.power.proofs.Once.{but, items-in}
-use Rattle.power.proofs.Read.{right-same, sequence-same, state-inv, state-is, stateByte, wordBy}
+use Rattle.power.proofs.Read.{right-same, state-inv, state-is, stateByte, wordBy}
 use Rattle.power.proofs.Shape.{word-keep}
 use Rattle.power.proofs.Walks.{items-gone, items-kept}
 
@@ -50,9 +49,6 @@ state-word Freeing f = (λ e. omega arith, refl)
 module _ (T : List ℕ) (ss : List Step) (within : AllIn 32 64 ss) where
   header-kept : part (run ss T) 4 28 ≡ part T 4 28
   header-kept = part-kept 32 64 4 28 ss T within (inl (omega arith))
-
-  sequence-kept : sequenceOf (run ss T) ≡ sequenceOf T
-  sequence-kept = sequence-same T (run ss T) header-kept
 
   state-kept : isFree (stateOf T) ≡ false → stateOf (run ss T) ≡ stateOf T
   state-kept f =
@@ -76,7 +72,6 @@ pub record Erases (l : List ℕ) (x : Found) (m : List ℕ) : Type 0 where
   pub len : length m ≡ length l
   pub others : (u : ℕ) → (u ≡ x .sector → ⊥) → sector u m ≡ sector u l
   pub state : stateOf (sector (x .sector) m) ≡ stateOf (sector (x .sector) l)
-  pub seq : sequenceOf (sector (x .sector) m) ≡ sequenceOf (sector (x .sector) l)
 
 module _ (l : List ℕ) (x : Found) (S : Stands l x) where
   abbrev s : ℕ
@@ -138,17 +133,7 @@ module _ (l : List ℕ) (x : Found) (S : Stands l x) where
     len = length-run (take k (erasure x)) l;
     others = λ u ne. sector-kept u s (take k (erasure x)) l ne (every-take (In (s * 4096) (s * 4096 + 4096)) k (erasure x) (erasing-in s e n fits));
     state = rw (local k) (state k);
-    seq = rw (local k) (sequence-kept T (take k steps) (within k));
   }
-
-  -- bytes stay bytes
-  pub erases-small : ((i : ℕ) → getD l i 0 < 256) → (k i : ℕ) → getD (run (take k (erasure x)) l) i 0 < 256
-  unfolding erasing
-  erases-small small k i =
-      let F = Fit (s * 4096 + 4096) in
-      let a = small i in
-      let b = fit-le (s * 4096 + 4096) (take k (erasure x)) l i (every-take F k (erasure x) (unmarking-every F (s * 4096) e n fits (λ v g. omega arith))) in
-      omega arith
 
   -- the other entries, while the steps are made
   same : (k i : ℕ) → (i < e) ⊎ (e + n ≤ i) → stateAt (run (take k steps) T) i ≡ stateAt T i

@@ -1,6 +1,6 @@
 -- The general form of demand 3: every cut of reclaim, and of a recovery after it, leaves one of reclaim's images or what is left of the store; and recovery
 -- run to its end keeps the same items of each. Assumes nothing.
-use mathlib.Core.Path.{_∙_, _≡_, refl, sym}
+use mathlib.Core.Path.{_∙_, _≡_, ap, refl, sym}
 use mathlib.Core.Logic.{_⊎_, inl, inr, ⊎-elim}
 use mathlib.Core.Bool.{Bool, cond, false, true}
 use mathlib.Core.List.{List, [], _++_, _∷_}
@@ -10,7 +10,7 @@ use lib.ListN.{length, take}
 use lib.Seq.{take-length}
 use Rattle.entry.specs.States.{one}
 use Rattle.page.specs.Walk.{Laid}
-use Rattle.flash.specs.Step.{run}
+use Rattle.flash.specs.Step.{Step, run}
 use Rattle.flash.proofs.Laws.{cut-append, run-append}
 use Rattle.lists.specs.Lists.{sumOf}
 use Rattle.lists.proofs.Sums.{sum-le}
@@ -86,9 +86,12 @@ module _ (L : List ℕ) (U : Unsettled L) where
       go (inl K) = inl (left-cut L F m K k)
       go (inr (s, G, T)) = state-cut s G m T k
 
-  image-end : (m : List ℕ) → Image m → Ended (recovered m)
+  recovered-is : (m : List ℕ) → Image m → recovered m ≡ run (plain m) m
   unfolding recovered
-  image-end m I = rw (steps-are m I) (go I)
+  recovered-is m I = ap (λ (ss : List Step). run ss m) (steps-are m I)
+
+  image-end : (m : List ℕ) → Image m → Ended (recovered m)
+  image-end m I = rw (recovered-is m I) (go I)
     where
       go : Image m → Ended (run (plain m) m)
       go (inl K) = left-end m K

@@ -109,10 +109,10 @@ module _ (l : List ℕ) (t : ℕ) (h : t < sectorsOf l) (mk : stateOf (sector t 
       was u a (inr e) = rw (e .0)
 
 -- a mark, or none
-pub record Marked (L l : List ℕ) (ss : List Step) : Type 0 where
-  pub cuts : Cuts L ss l
-  pub same-free : (u : ℕ) → isFree (stateOf (sector u (run ss l))) ≡ isFree (stateOf (sector u l))
-  pub same-total : (f : List ℕ → ℕ) → total f (run ss l) ≡ total f l
+record Marked (L l : List ℕ) (ss : List Step) : Type 0 where
+  cuts : Cuts L ss l
+  same-free : (u : ℕ) → isFree (stateOf (sector u (run ss l))) ≡ isFree (stateOf (sector u l))
+  same-total : (f : List ℕ → ℕ) → total f (run ss l) ≡ total f l
 
 by-marks : (L l : List ℕ) → Left L l → (ss : List Step) → Marks l ss → Marked L l ss
 by-marks L l K ss (inl e) = rw e (record { cuts = λ k. rw (take-nil {A = Step} k, run-nil l) K; same-free = λ u. rw (run-nil l); same-total = λ f. rw (run-nil l) })

@@ -41,7 +41,7 @@ pub mod Left
 pub mod Judged
 pub mod Last
 pub mod Unsettled
-pub mod Settled
+pub mod Stores
 pub mod General
 pub mod Demand3
 pub mod Cuts

@@ -1,6 +1,6 @@
--- The walk goes on, so it meets each entry once at most: an item is told by its entry, and a sum over the items is that over the others and its own part.
+-- The walk goes on, so it meets each entry once at most, and a sum over the items is that over the others and its own part.
 -- Assumes nothing.
-use mathlib.Core.Path.{_∙_, _≡_, ap, refl, sym}
+use mathlib.Core.Path.{_≡_, ap, refl, sym}
 use mathlib.Core.Logic.{inl, inr}
 use mathlib.Core.Bool.{Bool, cond, false, not, true}
 use mathlib.Core.List.{List, [], _∷_}
@@ -14,7 +14,6 @@ use Rattle.page.proofs.Walking.{goes-on}
 use Rattle.lists.specs.Lists.{keep, sumOf}
 use Rattle.lists.proofs.Search.{keep-all}
 use Rattle.lists.proofs.Member.{_∈_}
-use Rattle.power.proofs.Items.{walk-in}
 
 -- the items but the one at entry e
 abbrev pub but : ℕ → List Laid → List Laid
@@ -39,13 +38,6 @@ walk-from t (suc m) i x w = go (isItem t i) (onFrom t i) (goes-on t i) w (walk-f
     go true j h (inl r) f = let a : x .entry ≡ i = ap (λ (y : Laid). y .entry) r in omega arith
     go true j h (inr k) f = let a = f k in omega arith
     go false j h k f = let a = f k in omega arith
-
--- an item is told by its entry
-pub same-entry : (t : List ℕ) (x y : Laid) → x ∈ itemsOf t → y ∈ itemsOf t → x .entry ≡ y .entry → x ≡ y
-same-entry t x y a b e = laid x a ∙ ap {B = Laid} (laidAt t) e ∙ sym (laid y b)
-  where
-    laid : (z : Laid) → z ∈ itemsOf t → z ≡ laidAt t (z .entry)
-    laid z m = ap {B = Laid} (λ (r : List ℕ). record { entry = z .entry; raw = r }) (walk-in t 126 0 z (items-in t z m .1) .bytes)
 
 module _ (t : List ℕ) (f : Laid → ℕ) (x : Laid) where
   walk-but : (m i : ℕ) → x ∈ walk t m i → sumOf f (but (x .entry) (walk t m i)) + f x ≡ sumOf f (walk t m i)

@@ -33,7 +33,7 @@ use Rattle.power.proofs.Calm.{Tidy, calm}
 use Rattle.power.proofs.Totals.{total-found}
 
 -- where stages 3 and 4 make no step, nothing was to be erased
-pub idle-stages : (ps : List Page) (l : List ℕ) → stages ps l ≡ [] → (blobSteps (found ps l) ≡ []) × (duplicateSteps (found ps l) ≡ [])
+idle-stages : (ps : List Page) (l : List ℕ) → stages ps l ≡ [] → (blobSteps (found ps l) ≡ []) × (duplicateSteps (found ps l) ≡ [])
 unfolding stages duplicateStage run
 idle-stages ps l e =
     let b : blobSteps (found ps l) ≡ [] = nil-left _ _ e in

@@ -108,7 +108,7 @@ module _ (L : List ℕ) (s : ℕ) (G : Good L s) (small : (i : ℕ) → getD L i
           partly t q (side-of (λ u a b. o u a)) (source-of o) (target-of (λ u a b. o u a) (going-seq q X (sector t m) q-small g))
           (going-active q X (sector t m) g) (going-partial q X (sector t m) (sector s L) refl g)
       cut-state (ready o r) = ⊎-elim
-          (λ k. partly t q (side-of (λ u a b. o u a)) (source-of o) (target-of (λ u a b. o u a) (ready-seq q X (sector t m) q-small r)) (k .0) (all-there (ready-items q X (sector t m) r)))
+          (λ k. partly t q (side-of (λ u a b. o u a)) (source-of o) (target-of (λ u a b. o u a) (ready-seq q X (sector t m) q-small r)) k (all-there (ready-items q X (sector t m) r)))
           (λ k. full t q (side-of (λ u a b. o u a)) (source-of o) (target-of (λ u a b. o u a) (ready-seq q X (sector t m) q-small r)) k (ready-items q X (sector t m) r))
           (ready-settled q X (sector t m) r)
         where
@@ -163,7 +163,7 @@ module _ (L : List ℕ) (s : ℕ) (G : Good L s) (small : (i : ℕ) → getD L i
         (λ k. ⊎-elim (λ z. z) (λ z. absurd (⊎-elim (λ w. true≢false e (rw (w .2))) (λ w. true≢false e (free-neither (stateOf (sector u m)) (w .0) .0)) z)) k) (which u h)
 
     at-t : (u : ℕ) → u ≡ t → Settled (sector t m) → freeing (stateOf (sector u m)) ≡ false
-    at-t u k (inl w) = let y : stateOf (sector u m) ≡ Active = ap (λ (v : ℕ). stateOf (sector v m)) k ∙ w .0 in rw y
+    at-t u k (inl w) = let y : stateOf (sector u m) ≡ Active = ap (λ (v : ℕ). stateOf (sector v m)) k ∙ w in rw y
     at-t u k (inr w) = let y : stateOf (sector u m) ≡ Full = ap (λ (v : ℕ). stateOf (sector v m)) k ∙ w in rw y
 
     freeing-no : (u : ℕ) → u < n → freeing (stateOf (sector u m)) ≡ false

@@ -9,6 +9,7 @@ use borrow.Author.Tests.{eq-eqb}
 use Rattle.entry.specs.States.{one}
 use Rattle.entry.specs.Fields.{spanOf}
 use Rattle.page.proofs.Tests.{both-is}
+use Rattle.flash.specs.Step.{run}
 use Rattle.lists.proofs.Member.{_∈_}
 use Rattle.lists.proofs.Search.{every-is}
 use Rattle.lists.proofs.Sums.{sum-ge}
@@ -17,6 +18,8 @@ use Rattle.found.specs.Found.{Found, found, indexOf, isIndex, versionOf}
 use Rattle.blobs.specs.Blobs.{sound}
 use Rattle.quick.specs.Calm.{Calm}
 use Rattle.quick.proofs.Counts.{one-true}
+use Rattle.answer.specs.Staged.{untag}
+use Rattle.recover.specs.Recover.{recovering}
 use Rattle.power.specs.Demand3.{Premises, Store, total}
 use Rattle.power.specs.General.{Unsettled}
 use Rattle.power.proofs.Doomed.{soundBy}
@@ -34,7 +37,7 @@ module _ (L : List ℕ) (S : Store L) where
 
   -- recovery makes no step on it
   pub no-step : plain L ≡ []
-  no-step = no-steps L (no-active L H) (no-freeing L H) (rw (plain-same L) at (S .unchanged))
+  no-step = let e : run (untag (recovering L)) L ≡ L = S .unchanged in no-steps L (no-active L H) (no-freeing L H) (rw (plain-same L) at e)
 
   -- and so its items are calm
   calm : Calm (λ (f : List ℕ → ℕ). total f L)
