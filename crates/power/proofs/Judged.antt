@@ -124,7 +124,6 @@ module _ (L : List ℕ) (F : Fit L) (l : List ℕ) (K : Left L l) (ps : List Pag
   -- ---- and what is kept is all that stands at its end
   pub blobs-keep : Keeps L (run (eraseAll ds) l)
   blobs-keep f =
-      let m = run (eraseAll ds) l in
       let a = blobs-done .sums f in
       let b = doomed-sum fs (λ (x : Found). f (x .raw)) ∙ sum-ext _ _ fs (λ x i. rw (lost-same (x .raw))) ∙ same (λ (r : List ℕ). cond (unsound L r) (f r) 0) in
       let c = total-plus (λ (r : List ℕ). cond (unsound L r) (f r) 0) (λ (r : List ℕ). cond (unsound L r) 0 (f r)) l ∙ ap (λ (g : List ℕ → ℕ). total g l) (fun-ext (λ r. split (f r) (unsound L r))) in

@@ -22,8 +22,7 @@ use Rattle.lists.proofs.Member.{_∈_}
 use Rattle.lists.proofs.Search.{keep-in}
 use Rattle.lists.proofs.Sums.{sum-keep-le}
 use Rattle.table.specs.declared.Page.{Page}
-use Rattle.table.specs.Table.{active, activePage, freeing, frees, inSector, pages, sectorsOf}
-use Rattle.table.proofs.Pages.{length-frees}
+use Rattle.table.specs.Table.{active, activePage, freeing, inSector, pages, sectorsOf}
 use Rattle.table.proofs.Sectors.{sumTo, sumTo-ext}
 use Rattle.order.specs.Order.{ordered, ordering}
 use Rattle.found.specs.Found.{Found, eraseAll, found}
@@ -34,14 +33,13 @@ use Rattle.power.specs.Demand3.{total}
 use Rattle.power.proofs.Doomed.{doomed}
 use Rattle.power.proofs.Judged.{Fit, Keeps, blob-steps, blobs-cut, blobs-done, blobs-keep, single}
 use Rattle.power.proofs.Left.{Left}
-use Rattle.power.proofs.Listing.{Lists, listed-count, listed-page, lists-same}
+use Rattle.power.proofs.Listing.{Lists, frees-same, listed-count, listed-page, lists-same}
 use Rattle.power.proofs.Lone.{Lone}
 use Rattle.power.proofs.Marks.{Marks, m-full, m-items, m-others}
 use Rattle.power.proofs.Plain.{orderOn, plain, stages}
 use Rattle.power.proofs.Quiet.{Ordered, Rest, active-inv, plain-rest, rest-order}
 use Rattle.power.proofs.Read.{noRoom}
 use Rattle.power.proofs.Runs.{run-nil}
-use Rattle.power.proofs.Steps.{freeAt}
 use Rattle.power.proofs.Totals.{onSector, total-sectors}
 
 -- ---- steps that leave it so wherever they are cut
@@ -84,7 +82,7 @@ module _ (l : List ℕ) (t : ℕ) (h : t < sectorsOf l) (mk : stateOf (sector t 
       record {
         len = length-run (markFull t ∷ []) l ∙ K .len;
         rest = record { no-freeing = λ u k. calm u (rw n-same at k) (marked u); lone = λ u v hu hv eu ev. K .rest .lone u v (rw n-same at hu) (rw n-same at hv) (was u eu (marked u)) (was v ev (marked v)) };
-        free = (let a = frees-same in let b = K .free in omega arith);
+        free = (let a = frees-same l lf (length-run (markFull t ∷ []) l) mark-free in let b = K .free in omega arith);
         gone = K .gone;
         sums = λ f. (let a = mark-total f in let b = K .sums f in omega arith);
         doomed = K .doomed;
@@ -93,11 +91,6 @@ module _ (l : List ℕ) (t : ℕ) (h : t < sectorsOf l) (mk : stateOf (sector t 
     where
       n-same : sectorsOf lf ≡ sectorsOf l
       n-same = ap (λ (k : ℕ). k / 4096) (length-run (markFull t ∷ []) l)
-
-      frees-same : length (frees lf) ≡ length (frees l)
-      frees-same =
-          length-frees lf ∙ ap (λ (k : ℕ). sumTo (freeAt lf) (k / 4096)) (length-run (markFull t ∷ []) l)
-          ∙ sumTo-ext (freeAt lf) (freeAt l) (sectorsOf l) (λ u k. rw (mark-free u)) ∙ sym (length-frees l)
 
       calm : (u : ℕ) → u < sectorsOf l → (sector u lf ≡ sector u l) ⊎ ((stateOf (sector u l) ≡ Active) × (stateOf (sector u lf) ≡ Full)) → freeing (stateOf (sector u lf)) ≡ false
       calm u k (inl e) = rw e (K .rest .no-freeing u k)

@@ -15,15 +15,14 @@ use Rattle.lists.proofs.Maps.{map-in, sum-map}
 use Rattle.lists.proofs.Search.{some-in, some-is}
 use Rattle.lists.proofs.Sums.{sum-append, sum-zero}
 use Rattle.table.specs.Table.{frees, sectorsOf}
-use Rattle.table.proofs.Sectors.{sumTo, sumTo-ext}
-use Rattle.table.proofs.Pages.{length-frees}
 use Rattle.found.specs.Found.{Found, indexOf, isPart, versionOf}
 use Rattle.quick.specs.Calm.{partOf}
 use Rattle.power.specs.Demand3.{total}
 use Rattle.power.proofs.Doomed.{soundBy, soundBy-same}
+use Rattle.power.proofs.Listing.{frees-same}
 use Rattle.power.proofs.Lone.{Lone}
 use Rattle.power.proofs.Quiet.{Rest}
-use Rattle.power.proofs.Steps.{Final, freeAt}
+use Rattle.power.proofs.Steps.{Final}
 use Rattle.power.proofs.Without.{Without}
 
 -- whether version v of the store is sound
@@ -94,11 +93,6 @@ module _ (L l : List ℕ) (K : Left L l) where
     n-same : sectorsOf m ≡ sectorsOf l
     n-same = ap (λ (k : ℕ). k / 4096) (W .len)
 
-    free-same : length (frees m) ≡ length (frees l)
-    free-same =
-        length-frees m ∙ ap (λ (k : ℕ). sumTo (freeAt m) (k / 4096)) (W .len)
-        ∙ sumTo-ext (freeAt m) (freeAt l) (sectorsOf l) (λ u h. rw (W .states u)) ∙ sym (length-frees l)
-
     now-gone : (r : List ℕ) → r ∈ (map (λ (x : Found). x .raw) xs ++ K .gone) → ((x : Found) × (x ∈ xs) × (r ≡ x .raw)) ⊎ (r ∈ K .gone)
     now-gone r k = ⊎-elim (λ a. inl (map-in (λ (x : Found). x .raw) xs r a)) (λ a. inr a) (in-append r (map (λ (x : Found). x .raw) xs) (K .gone) k)
 
@@ -112,7 +106,7 @@ module _ (L l : List ℕ) (K : Left L l) where
                 no-freeing = λ u h. rw (W .states u) (K .rest .no-freeing u (rw n-same at h));
                 lone = λ u v hu hv eu ev. K .rest .lone u v (rw n-same at hu) (rw n-same at hv) (rw (W .states u) at eu) (rw (W .states v) at ev);
               };
-          free = (let a = free-same in let b = K .free in omega arith);
+          free = (let a = frees-same l m (W .len) (λ u. rw (W .states u)) in let b = K .free in omega arith);
           gone = map (λ (x : Found). x .raw) xs ++ K .gone;
           sums = λ f. (let a = sum-append f (map (λ (x : Found). x .raw) xs) (K .gone) in let b = sum-map f (λ (x : Found). x .raw) xs in let c = W .sums f in let d = K .sums f in omega arith);
           doomed = λ r k. ⊎-elim (λ a. rw (a .2) (parts (a .0) (a .1))) (λ a. K .doomed r a) (now-gone r k);

@@ -16,8 +16,8 @@ use Rattle.lists.proofs.Member.{_∈_}
 use Rattle.lists.proofs.Maps.{flatMap-in, map-in}
 use Rattle.lists.proofs.Sums.{sum-ext, sum-ge}
 use Rattle.table.specs.declared.Page.{Page}
-use Rattle.table.specs.Table.{inSector, itemsIn, pages, sectorsOf}
-use Rattle.table.proofs.Pages.{once, pages-in, sum-pages}
+use Rattle.table.specs.Table.{frees, inSector, itemsIn, pages, sectorsOf}
+use Rattle.table.proofs.Pages.{length-frees, once, pages-in, sum-pages}
 use Rattle.table.proofs.Sectors.{sumTo, sumTo-ext}
 use Rattle.found.specs.Found.{Found, found, foundOn}
 use Rattle.duplicates.proofs.Apart.{found-once}
@@ -27,6 +27,7 @@ use Rattle.quick.proofs.Counts.{one-true, pos-in}
 use Rattle.power.specs.Demand3.{total}
 use Rattle.power.proofs.Erasing.{Stands}
 use Rattle.power.proofs.Items.{listed-items}
+use Rattle.power.proofs.Steps.{freeAt}
 use Rattle.power.proofs.Totals.{found-total, total-walked, walked}
 
 abbrev pub Lists : List ℕ → List Page → Type 0
@@ -39,6 +40,11 @@ lists-same l m ps e s P h =
     let b = sumTo-ext (λ (u : ℕ). cond (isFree (stateOf (sector u m))) 0 (h u)) (λ (u : ℕ). cond (isFree (stateOf (sector u l))) 0 (h u)) (sectorsOf l) (λ u k. rw (s u)) in
     let c = sum-pages l (λ (p : Page). h (p .sector)) in
     P h ∙ c ∙ sym b ∙ sym a
+
+-- there are as many free ones
+pub frees-same : (l m : List ℕ) → length m ≡ length l → ((u : ℕ) → isFree (stateOf (sector u m)) ≡ isFree (stateOf (sector u l))) → length (frees m) ≡ length (frees l)
+frees-same l m e s =
+    length-frees m ∙ ap (λ (k : ℕ). sumTo (freeAt m) (k / 4096)) e ∙ sumTo-ext (freeAt m) (freeAt l) (sectorsOf l) (λ u h. rw (s u)) ∙ sym (length-frees l)
 
 module _ (l : List ℕ) (ps : List Page) (P : Lists l ps) where
   pub listed-total : (f : List ℕ → ℕ) → tot f (found ps l) ≡ total f l
