@@ -63,20 +63,23 @@ page-once l z p =
     go false = let a = sum-zero (λ (w : Laid). 0) (walk t 126 0) (λ w m. refl) in omega arith
 
 -- ---- the list
-found-once : {n : ℕ} {ps : List Page} {frees : List ℕ} (l : List ℕ) → Placed n ps frees → Once (found ps l)
-unfolding found timesIn
-found-once {n} {ps} l h =
+pub found-once : (ps : List Page) (l : List ℕ) → ((u : ℕ) → sumOf (λ (p : Page). one (inSector u p)) ps ≤ 1) → Once (found ps l)
+unfolding found
+found-once ps l h =
     record {
       times = λ z.
           let a = sum-flatMap (λ (x : Found). one (samePlace x z)) (foundOn l) ps in
           let b = sum-le (λ (p : Page). sumOf (λ (x : Found). one (samePlace x z)) (foundOn l p)) (λ (p : Page). one (inSector (z .sector) p)) ps (λ p m. page-once l z p) in
-          let c = h .once (z .sector) in
-          let d = one-le (ltb (z .sector) n) in
+          let c = h (z .sector) in
           omega arith;
     }
 
+placed-once : {n : ℕ} {ps : List Page} {frees : List ℕ} → Placed n ps frees → (u : ℕ) → sumOf (λ (p : Page). one (inSector u p)) ps ≤ 1
+unfolding timesIn
+placed-once {n} h u = let c = h .once u in let d = one-le (ltb u n) in omega arith
+
 pub found-apart : {n : ℕ} {ps : List Page} {frees : List ℕ} (l : List ℕ) → Placed n ps frees → Each (Lies l) ps → ((i : ℕ) → getD l i 0 < 256) → Apart (found ps l)
-found-apart {n} {ps} l h lies small = record { once = found-once l h; keys = λ x m. key x (map-in (itemAt l) (map placeOf (found ps l)) x (rw (items-found l ps lies) m)) }
+found-apart {n} {ps} l h lies small = record { once = found-once ps l (placed-once h); keys = λ x m. key x (map-in (itemAt l) (map placeOf (found ps l)) x (rw (items-found l ps lies) m)) }
   where
     key : (x : Found) → ((p : ℕ) × (p ∈ map placeOf (found ps l)) × (x ≡ itemAt l p)) → keyNumber (keyOf (x .raw)) < 2 ^ 128
     key x r = rw (r .2) (item-key l (r .0) small)

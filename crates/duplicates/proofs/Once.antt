@@ -101,11 +101,19 @@ once-other a b x y o m n =
 pub once-only : (fs : List Found) (x y : Found) → Once fs → x ∈ fs → y ∈ fs → samePlace x y ≡ true → x ≡ y
 once-only fs x y o m n e = sym (only (λ (z : Found). samePlace z y) fs x y (o .times y) m e n (same-self y))
 
+-- the first and the rest
+pub once-rest : (x : Found) (xs : List Found) → Once (x ∷ xs) → Once xs
+unfolding sumOf
+once-rest x xs o = once-fewer (x ∷ xs) xs (λ f. omega arith) o
+
+pub once-first : (x : Found) (xs : List Found) → Once (x ∷ xs) → (y : Found) → y ∈ xs → samePlace x y ≡ false
+once-first x xs o y m = once-other (x ∷ []) xs x y o (inl refl) m
+
 pub once-same : (xs : List Found) → Once xs → onceEach xs ≡ xs
 unfolding onceEach
 once-same [] o = refl
 once-same (x ∷ xs) o =
     ap {B = List Found} (λ (ys : List Found). x ∷ ys) (
-    ap (keep (λ (y : Found). not (samePlace x y))) (once-same xs (once-fewer (x ∷ xs) xs (λ f. unfold sumOf in omega arith) o))
-    ∙ keep-all (λ (y : Found). not (samePlace x y)) xs (λ y m. ap not (once-other (x ∷ []) xs x y o (inl refl) m))
+    ap (keep (λ (y : Found). not (samePlace x y))) (once-same xs (once-rest x xs o))
+    ∙ keep-all (λ (y : Found). not (samePlace x y)) xs (λ y m. ap not (once-first x xs o y m))
     )

@@ -22,10 +22,18 @@ use Rattle.table.proofs.Pages.{page-state, pages-in}
 use Rattle.finishing.specs.Finishing.{freeings}
 use Rattle.recover.specs.Recover.{accepted, tooHigh}
 use Rattle.power.proofs.State.{AllFree, Good, Old, Side, Source, State, Target, TargetRecord, done, freeings-one, full, gone, junk, junk-page, old-full, old-sequence, partly, same, source-record, target-page, target-record}
-use Rattle.power.proofs.Quiet.{freeings-none}
-use Rattle.power.proofs.Steps.{Final, done-final, gone-final}
+use Rattle.power.proofs.Quiet.{Rest, freeings-none}
+use Rattle.power.proofs.Steps.{done-final, gone-final}
 
-module _ (L : List ℕ) (s : ℕ) (G : Good L s) (small : (i : ℕ) → getD L i 0 < 256) (ok : accepted L ≡ true) where
+low-one : (ps : List Page) → freeings ps ≡ 1 → ((p : Page) → p ∈ ps → sequence p < 0xFFFFFFF1) → tooHigh ps ≡ false
+unfolding tooHigh
+low-one ps e h = let g = greatest-lt sequence ps 0xFFFFFFF1 (omega arith) h in rw (e, le-ltb (0xFFFFFFFE - 1) (greatest sequence ps) (omega arith))
+
+low-none : (ps : List Page) → freeings ps ≡ 0 → tooHigh ps ≡ false
+unfolding tooHigh
+low-none ps e = rw e
+
+module _ (L : List ℕ) (ok : accepted L ≡ true) where
   whole-same : (l : List ℕ) → length l ≡ length L → wholeSectors l ≡ true
   unfolding wholeSectors
   whole-same l e = rw e (first ok)
@@ -33,22 +41,16 @@ module _ (L : List ℕ) (s : ℕ) (G : Good L s) (small : (i : ℕ) → getD L i
       first : accepted L ≡ true → wholeSectors L ≡ true
       first k = unfold accepted in both-first (wholeSectors L) _ k
 
-  low-one : (ps : List Page) → freeings ps ≡ 1 → ((p : Page) → p ∈ ps → sequence p < 0xFFFFFFF1) → tooHigh ps ≡ false
-  unfolding tooHigh
-  low-one ps e h = let g = greatest-lt sequence ps 0xFFFFFFF1 (omega arith) h in rw (e, le-ltb (0xFFFFFFFE - 1) (greatest sequence ps) (omega arith))
-
-  low-none : (ps : List Page) → freeings ps ≡ 0 → tooHigh ps ≡ false
-  unfolding tooHigh
-  low-none ps e = rw e
-
   accept-by : (l : List ℕ) → length l ≡ length L → tooHigh (pages l) ≡ false → accepted l ≡ true
   unfolding accepted
   accept-by l e h = rw (whole-same l e, h)
 
-  accept-final : (l : List ℕ) → Final L l → accepted l ≡ true
-  accept-final l F =
-      accept-by l (F .len) (low-none (pages l) (freeings-none (pages l) (λ p m. rw (page-state l p m) (F .rest .no-freeing (p .sector) (pages-in l p m .1)))))
+  -- no Freeing page
+  pub accept-rest : (l : List ℕ) → length l ≡ length L → Rest l → accepted l ≡ true
+  accept-rest l e R =
+      accept-by l e (low-none (pages l) (freeings-none (pages l) (λ p m. rw (page-state l p m) (R .no-freeing (p .sector) (pages-in l p m .1)))))
 
+module _ (L : List ℕ) (s : ℕ) (G : Good L s) (small : (i : ℕ) → getD L i 0 < 256) (ok : accepted L ≡ true) where
   old-low : (p : Page) → Old L s p → sequence p < 0xFFFFFFF1
   old-low p k = let a = old-sequence L s p k in let b = G .below (p .sector) (k .1) (k .3) in omega arith
 
@@ -61,13 +63,13 @@ module _ (L : List ℕ) (s : ℕ) (G : Good L s) (small : (i : ℕ) → getD L i
 
     accept-junk : AllFree L l → accepted l ≡ true
     accept-junk F =
-        accept-by l (D .len) (low-one (pages l)
+        accept-by L ok l (D .len) (low-one (pages l)
         (freeings-one L s G l D R (λ p m e. ⊎-elim (λ k. k) (λ k. absurd (true≢false e (rw (old-full L s G p k)))) (junk-page L s G l D F p m)))
         (λ p m. ⊎-elim (λ k. source-low p k) (λ k. old-low p k) (junk-page L s G l D F p m)))
 
     accept-target : (t q : ℕ) → Target L l t q → (M : PageState) → isFree M ≡ false → freeing M ≡ false → stateOf (sector t l) ≡ M → accepted l ≡ true
     accept-target t q T M f nf mk =
-        accept-by l (D .len) (low-one (pages l)
+        accept-by L ok l (D .len) (low-one (pages l)
         (freeings-one L s G l D R (λ p m e. only p e (target-page L s G l D t q T p m)))
         (λ p m. low p (target-page L s G l D t q T p m)))
       where
@@ -90,5 +92,5 @@ module _ (L : List ℕ) (s : ℕ) (G : Good L s) (small : (i : ℕ) → getD L i
   accept l (junk D R t h w F) = accept-junk l D R F
   accept l (partly t q D R T m P) = accept-target l D R t q T Active refl refl m
   accept l (full t q D R T m E) = accept-target l D R t q T Full refl refl m
-  accept l (done t q D f T W E) = accept-final l (done-final L s G small l t q D f T W E)
-  accept l (gone D f F x) = accept-final l (gone-final L s G small l D f F x)
+  accept l (done t q D f T W E) = accept-rest L ok l (D .len) (done-final L s G small l t q D f T W E .rest)
+  accept l (gone D f F x) = accept-rest L ok l (D .len) (gone-final L s G small l D f F x .rest)

@@ -1,25 +1,23 @@
 -- Demand 3 of the calls: a call makes the first so many of the steps that demand 3 speaks of. Assumes nothing.
-use mathlib.Core.Path.{_≡_, refl, sym, ap, _∙_}
-use mathlib.Core.Bool.{Bool, true, false, not, _&&_}
+use mathlib.Core.Path.{_≡_, sym, ap, _∙_}
+use mathlib.Core.Bool.{true, false, not}
 use mathlib.Core.List.{List, [], _∷_}
-use Prim.Native.Nat.{ℕ, zero, suc, _≤_}
-use native.Mathlib.Omega.{arith}
+use Prim.Native.Nat.{ℕ, zero, suc}
 use lib.ListN.{length, take}
 use lib.Seq.{take-all}
 use borrow.Author.Tests.{le-leb, not-true}
 use Rattle.page.proofs.Tests.{both-first, both-second}
-use Rattle.flash.specs.Step.{Step, run}
+use Rattle.flash.specs.Step.{run}
 use Rattle.answer.specs.declared.Answer.{Answer}
 use Rattle.answer.specs.Answer.{numberOf, refusal}
 use Rattle.answer.specs.Staged.{untag, answerOf}
 use Rattle.answer.proofs.Tagged.{made-no-refusal}
 use Rattle.answer.proofs.Made.{length-untag, done-fits}
-use Rattle.table.specs.Table.{sectorsOf, wholeSectors, pages, frees}
-use Rattle.reclaim.specs.Promise.{ReclaimPromise}
+use Rattle.table.specs.Table.{sectorsOf, wholeSectors, pages}
 use Rattle.recover.specs.Recover.{tooHigh, recovering, accepted, recovery}
-use Rattle.recover.specs.Promise.{calling, wholeAnswer, recoverAnswer, RecoverPromise}
-use Rattle.power.specs.Demand3.{Store, Safe, failing, recoveries, recovered, held}
-use Rattle.power.specs.Calls.{Called, Restarts, Sound, CallsSafe}
+use Rattle.recover.specs.Promise.{calling, wholeAnswer, recoverAnswer}
+use Rattle.power.specs.Demand3.{Safe, failing, recoveries, recovered, held}
+use Rattle.power.specs.Calls.{Called, Restarts, CallsSafe}
 use Rattle.power.proofs.Demand3.{demand3}
 
 module _ (l m : List ℕ) (a : Answer) (h : Called l m a) where

@@ -46,6 +46,40 @@ unfolding flatMap
 flatMap-dropLast fs o [] e = refl
 flatMap-dropLast fs o (x ∷ xs) e = absurd (with-some fs o x (nil-left _ _ e))
 
+-- ---- where no group has two items: at most one index of a version, and of both versions of a key
+module _ (fs : List Found) (tidy : Tidy fs) (single : (g : ℕ) → tot (λ (r : List ℕ). one (inGroup g r)) fs ≤ 1) where
+  in-group : (v : ℕ) (x : Found) → x ∈ fs → indexOf v (x .raw) ≡ true → inGroup (groupIn v) (x .raw) ≡ true
+  in-group v x m e =
+      let i = both-first (isIndex (x .raw)) _ e in
+      let w = eqb-true (versionOf (x .raw)) v (both-second (isIndex (x .raw)) _ e) in
+      let t = tidy x m in
+      rw
+      (index-not-chunk (x .raw) i, le-leb 1 (namespaceOf (x .raw)) (t .1 (index-part (x .raw) i)), eq-eqb (groupOf (x .raw)) (groupIn v) (version-group v (x .raw) (t .0) w))
+
+  pub lone : (v : ℕ) → tot (λ (r : List ℕ). one (indexOf v r)) fs ≤ 1
+  lone v =
+      let a = sum-le (λ (x : Found). one (indexOf v (x .raw))) (λ (x : Found). one (inGroup (groupIn v) (x .raw))) fs (λ x m. one-le (indexOf v (x .raw)) (inGroup (groupIn v) (x .raw)) (in-group v x m)) in
+      let b = single (groupIn v) in
+      omega arith
+
+  pub not-both : (g : ℕ) → tot (λ (r : List ℕ). one (indexOf (versionIn g 0) r)) fs + tot (λ (r : List ℕ). one (indexOf (versionIn g 0x80) r)) fs ≤ 1
+  not-both g =
+      let a = sum-plus (λ (x : Found). one (indexOf (versionIn g 0) (x .raw))) (λ (x : Found). one (indexOf (versionIn g 0x80) (x .raw))) fs in
+      let b = sum-le (λ (x : Found). one (indexOf (versionIn g 0) (x .raw)) + one (indexOf (versionIn g 0x80) (x .raw))) (λ (x : Found). one (inGroup g (x .raw))) fs
+      (λ x m. two x m (indexOf (versionIn g 0) (x .raw)) refl (indexOf (versionIn g 0x80) (x .raw)) refl) in
+      let c = single g in
+      omega arith
+    where
+      two : (x : Found) → x ∈ fs → (a : Bool) → indexOf (versionIn g 0) (x .raw) ≡ a → (b : Bool) → indexOf (versionIn g 0x80) (x .raw) ≡ b
+          → one a + one b ≤ one (inGroup g (x .raw))
+      two x m false p false q = omega arith
+      two x m true p false q = rw (rw (split-in (2 ^ 128) g 0 pow-pos (omega arith)) at (in-group (versionIn g 0) x m p)) (omega arith)
+      two x m false p true q = rw (rw (split-in (2 ^ 128) g 128 pow-pos (omega arith)) at (in-group (versionIn g 0x80) x m q)) (omega arith)
+      two x m true p true q =
+          let u = eqb-true (versionOf (x .raw)) (versionIn g 0) (both-second (isIndex (x .raw)) _ p) in
+          let w = eqb-true (versionOf (x .raw)) (versionIn g 0x80) (both-second (isIndex (x .raw)) _ q) in
+          absurd (versionIn-ne (2 ^ 128) g pow-pos (sym u ∙ w))
+
 module _ (fs : List Found) (tidy : Tidy fs) (idle3 : blobSteps fs ≡ []) (idle4 : duplicateSteps fs ≡ []) where
   -- ---- stage 4: one of a group
   one-of : (g : ℕ) (x : Found) → x ∈ members g fs → length (members g fs) ≤ 1
@@ -68,39 +102,6 @@ module _ (fs : List Found) (tidy : Tidy fs) (idle3 : blobSteps fs ≡ []) (idle4
       go : (xs : List Found) → ((x : Found) → x ∈ xs → length xs ≤ 1) → length xs ≤ 1
       go [] h = omega arith
       go (x ∷ xs) h = h x (inl refl)
-
-  -- ---- so one index of a version
-  in-group : (v : ℕ) (x : Found) → x ∈ fs → indexOf v (x .raw) ≡ true → inGroup (groupIn v) (x .raw) ≡ true
-  in-group v x m e =
-      let i = both-first (isIndex (x .raw)) _ e in
-      let w = eqb-true (versionOf (x .raw)) v (both-second (isIndex (x .raw)) _ e) in
-      let t = tidy x m in
-      rw
-      (index-not-chunk (x .raw) i, le-leb 1 (namespaceOf (x .raw)) (t .1 (index-part (x .raw) i)), eq-eqb (groupOf (x .raw)) (groupIn v) (version-group v (x .raw) (t .0) w))
-
-  lone : (v : ℕ) → tot (λ (r : List ℕ). one (indexOf v r)) fs ≤ 1
-  lone v =
-      let a = sum-le (λ (x : Found). one (indexOf v (x .raw))) (λ (x : Found). one (inGroup (groupIn v) (x .raw))) fs (λ x m. one-le (indexOf v (x .raw)) (inGroup (groupIn v) (x .raw)) (in-group v x m)) in
-      let b = single (groupIn v) in
-      omega arith
-
-  not-both : (g : ℕ) → tot (λ (r : List ℕ). one (indexOf (versionIn g 0) r)) fs + tot (λ (r : List ℕ). one (indexOf (versionIn g 0x80) r)) fs ≤ 1
-  not-both g =
-      let a = sum-plus (λ (x : Found). one (indexOf (versionIn g 0) (x .raw))) (λ (x : Found). one (indexOf (versionIn g 0x80) (x .raw))) fs in
-      let b = sum-le (λ (x : Found). one (indexOf (versionIn g 0) (x .raw)) + one (indexOf (versionIn g 0x80) (x .raw))) (λ (x : Found). one (inGroup g (x .raw))) fs
-      (λ x m. two x m (indexOf (versionIn g 0) (x .raw)) refl (indexOf (versionIn g 0x80) (x .raw)) refl) in
-      let c = single g in
-      omega arith
-    where
-      two : (x : Found) → x ∈ fs → (a : Bool) → indexOf (versionIn g 0) (x .raw) ≡ a → (b : Bool) → indexOf (versionIn g 0x80) (x .raw) ≡ b
-          → one a + one b ≤ one (inGroup g (x .raw))
-      two x m false p false q = omega arith
-      two x m true p false q = rw (rw (split-in (2 ^ 128) g 0 pow-pos (omega arith)) at (in-group (versionIn g 0) x m p)) (omega arith)
-      two x m false p true q = rw (rw (split-in (2 ^ 128) g 128 pow-pos (omega arith)) at (in-group (versionIn g 0x80) x m q)) (omega arith)
-      two x m true p true q =
-          let u = eqb-true (versionOf (x .raw)) (versionIn g 0) (both-second (isIndex (x .raw)) _ p) in
-          let w = eqb-true (versionOf (x .raw)) (versionIn g 0x80) (both-second (isIndex (x .raw)) _ q) in
-          absurd (versionIn-ne (2 ^ 128) g pow-pos (sym u ∙ w))
 
   -- ---- stage 3: a version has a sound index
   judged : (v : ℕ) (x : Found) → x ∈ fs → partOf v (x .raw) ≡ true → judge fs v ≡ []
@@ -149,7 +150,7 @@ module _ (fs : List Found) (tidy : Tidy fs) (idle3 : blobSteps fs ≡ []) (idle4
       let r = pos-in (λ (x : Found). indexOf v (x .raw)) fs h in
       let a = both-first (isIndex (r .0 .raw)) _ (r .2) in
       let s = sound-index v (r .0) (r .1) (both-is _ _ (index-part (r .0 .raw) a) (both-second (isIndex (r .0 .raw)) _ (r .2))) in
-      let n = lone v in
+      let n = lone fs tidy single v in
       let b = length-keep (λ (x : Found). indexOf v (x .raw)) fs in
       let o = length-one (indices v fs) (omega arith) in
       let e : s .0 ≡ o .0 = ⊎-elim (λ k. k) (λ k. absurd k) (rw (o .1) at (s .1)) in
@@ -174,4 +175,4 @@ module _ (fs : List Found) (tidy : Tidy fs) (idle3 : blobSteps fs ≡ []) (idle4
 
   -- so the items are calm
   pub calm : Calm (λ (f : List ℕ → ℕ). tot f fs)
-  calm = record { single = single; lone = lone; not-both = not-both; has = has; count = count; size = size }
+  calm = record { single = single; lone = lone fs tidy single; not-both = not-both fs tidy single; has = has; count = count; size = size }

@@ -147,12 +147,12 @@ module _ (q : ℕ) (xs : List Laid) (T : List ℕ) where
   -- all there
   pub ready-settled : Ready q (raws xs) T → Settled T
   ready-settled D =
-      ⊎-elim (λ k. inl (shape-active q T (raws xs) (D .p) (D .shape) (k .1), shape-room q T (raws xs) (D .p) (D .shape) (k .0)))
+      ⊎-elim (λ k. inl (shape-active q T (raws xs) (D .p) (D .shape) (k .1)))
       (λ k. inr (shape-full q T (raws xs) (D .p) (D .shape) k)) (D .word)
 
   -- and its items are the source's
   pub ready-items : Ready q (raws xs) T → raws (itemsOf T) ≡ raws xs
-  ready-items D = shape-items q T (raws xs) (D .p) (D .shape) (⊎-elim (λ k. rw (k .0)) (λ k. rw k) (ready-settled D))
+  ready-items D = shape-items q T (raws xs) (D .p) (D .shape) (⊎-elim (λ k. rw k) (λ k. rw k) (ready-settled D))
 
   pub ready-seq : q < 2 ^ 32 → Ready q (raws xs) T → sequenceOf T ≡ q
   ready-seq h D = shape-sequence q T (raws xs) (D .p) (D .shape) h

@@ -1,4 +1,4 @@
--- A cut of which the torn step is made or not made is a cut between steps: so demand 3 holds for these too. Assumes nothing.
+-- A cut of which the torn step is made or not made is a cut between steps: so the general form, and demand 3, hold for these. Assumes nothing.
 use mathlib.Core.Path.{_∙_, _≡_, ap}
 use mathlib.Core.Logic.{⊎-elim}
 use mathlib.Core.List.{List, [], _∷_}
@@ -12,7 +12,10 @@ use Rattle.recover.specs.Recover.{recovery}
 use Rattle.reclaim.specs.Reclaim.{reclaiming}
 use Rattle.power.specs.Cuts.{Atomic, Begun, Cut, PowerSafe, Tearing, never, torn, whole}
 use Rattle.power.specs.Demand3.{failing, recoveries}
-use Rattle.power.proofs.Demand3.{demand3}
+use Rattle.power.specs.General.{General}
+use Rattle.power.proofs.Demand3.{safe-by}
+use Rattle.power.proofs.General.{general-cuts}
+use Rattle.power.proofs.Stores.{unsettled}
 
 module _ (Torn : Tearing) (atomic : Atomic Torn) where
   -- one step more
@@ -32,15 +35,22 @@ module _ (Torn : Tearing) (atomic : Atomic Torn) where
       let ks = begun-cuts n (b .0) m (b .2) in
       (k .0 ∷ ks .0, ks .1 ∙ ap (recoveries (ks .0)) (k .1))
 
-  -- demand 3 for such cuts
-  pub power-safe : PowerSafe Torn
+  -- the general form
+  pub general : General Torn
   unfolding failing
-  power-safe l S x m c n b =
+  general l U x m c n b =
       let k = cut-between (reclaiming l) l x c in
       let ks = begun-cuts n x m b in
       let e : m ≡ recoveries (ks .0) (run (take (k .0) (reclaiming l)) l) = ks .1 ∙ ap (recoveries (ks .0)) (k .1) in
-      rw e (demand3 l S (k .0) (ks .0))
+      rw e (general-cuts l U (k .0) (ks .0))
+
+  -- demand 3
+  pub power-safe : PowerSafe Torn
+  power-safe l S x m c n b = safe-by l m S (general l (unsettled l S) x m c n b)
 
 -- where no step is made in part
+pub general-now : General never
+general-now = general never (λ s l m t. absurd t)
+
 pub power-safe-now : PowerSafe never
 power-safe-now = power-safe never (λ s l m t. absurd t)

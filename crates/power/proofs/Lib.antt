@@ -1,7 +1,13 @@
 pub mod Items
+pub mod Once
+pub mod Walks
 pub mod Calm
+pub mod Doomed
+pub mod Gone
+pub mod First
 pub mod Plain
 pub mod Read
+pub mod Marks
 pub mod Totals
 pub mod Lone
 pub mod Quiet
@@ -21,6 +27,7 @@ pub mod Complete
 pub mod Partly
 pub mod Recovery
 pub mod Zeros
+pub mod Erasing
 pub mod Programs
 pub mod Hits
 pub mod Unchanged
@@ -28,6 +35,14 @@ pub mod Premises
 pub mod Accepted
 pub mod AllErased
 pub mod Reclaiming
+pub mod Listing
+pub mod Without
+pub mod Left
+pub mod Judged
+pub mod Last
+pub mod Unsettled
+pub mod Stores
+pub mod General
 pub mod Demand3
 pub mod Cuts
 pub mod Calls

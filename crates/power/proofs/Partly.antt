@@ -5,11 +5,9 @@ use mathlib.Core.Logic.{_⊎_, inl, inr, ⊎-elim}
 use mathlib.Core.Bool.{Bool, cond, false, true}
 use mathlib.Core.Option.{some}
 use mathlib.Core.List.{List, [], _++_, _∷_}
-use Prim.Native.Nat.{_*_, _+_, _<_, _≤_, suc, zero, ℕ}
-use native.Mathlib.Nat.{add-zero}
-use native.Mathlib.Omega.{arith}
+use Prim.Native.Nat.{_<_, _≤_, suc, zero, ℕ}
 use lib.Dec.{eqb}
-use lib.ListN.{getD, length, take}
+use lib.ListN.{getD, take}
 use borrow.Author.Tests.{eqb-false, eqb-true}
 use Rattle.entry.specs.States.{one}
 use Rattle.page.specs.declared.state.PageState.{PageState}
@@ -18,11 +16,8 @@ use Rattle.page.specs.Record.{recordOf}
 use Rattle.page.specs.State.{isFree, stateOf}
 use Rattle.page.specs.Walk.{Laid, itemsOf}
 use Rattle.flash.specs.Step.{Step, erase, run, sector}
-use Rattle.flash.proofs.Erased.{length-sector}
-use Rattle.flash.proofs.Frame.{AllIn, In, length-run, sector-kept}
-use Rattle.flash.proofs.Lent.{Fit, sector-local}
-use Rattle.flash.proofs.Every.{every-one}
-use Rattle.item.specs.Mark.{markFull, pageState}
+use Rattle.flash.proofs.Frame.{length-run, sector-kept}
+use Rattle.item.specs.Mark.{markFull}
 use Rattle.relocate.specs.Move.{moving}
 use Rattle.lists.specs.Lists.{keep, sumOf}
 use Rattle.lists.proofs.Sums.{sum-ext}
@@ -35,13 +30,14 @@ use Rattle.table.proofs.Pages.{in-pages, once, page-empty, page-state}
 use Rattle.order.specs.Order.{kept, noEmpty, ordered, ordering}
 use Rattle.finish.specs.Finish.{copyOf}
 use Rattle.finishing.specs.Finishing.{freeings}
-use Rattle.power.proofs.State.{AllFree, Good, Old, Partial, Side, Source, SourceRecord, State, Target, TargetRecord, freeings-one, full, old-full, old-in, partly, source-in, source-record, target-apart, target-in, target-page, target-record}
+use Rattle.power.proofs.State.{AllFree, Good, Old, Partial, Side, Source, SourceRecord, State, Target, TargetRecord, freeings-one, full, n-same, old-full, old-in, partly, source-in, source-record, target-apart, target-in, target-page, target-record}
 use Rattle.power.proofs.Runs.{Runs, rec-some, run-nil, run-one}
 use Rattle.power.proofs.Lone.{Kept, Lone, kept-order, keptAs}
 use Rattle.power.proofs.Complete.{full-steps}
 use Rattle.power.proofs.Unmade.{move-runs}
 use Rattle.power.proofs.Finish.{finish-one, part-round}
-use Rattle.power.proofs.Read.{items-same, marked-drop, marked-sequence, noRoom, to-full}
+use Rattle.power.proofs.Read.{noRoom}
+use Rattle.power.proofs.Marks.{m-full, m-items, m-others, m-sequence}
 use Rattle.power.proofs.Move.{blank-free, erase-in, erased-blank}
 use Rattle.power.proofs.Plain.{finishOn, plain, rescan}
 use Rattle.power.proofs.Shape.{raws}
@@ -49,15 +45,6 @@ use Rattle.power.proofs.Ends.{e-done, one-step, room}
 use Rattle.power.proofs.Same.{copy-is}
 use Rattle.power.proofs.Steps.{Final}
 use Rattle.power.proofs.Items.{listed-items}
-
-mark-in : (u b : ℕ) → AllIn (u * 4096) (u * 4096 + 4096) (pageState (u * 4096) b ∷ [])
-mark-in u b = every-one (In (u * 4096) (u * 4096 + 4096)) _ (omega arith, omega arith)
-
--- a mark is a step on the sector's own bytes
-pub mark-sector : (t b : ℕ) (l : List ℕ) → sector t (run (pageState (t * 4096) b ∷ []) l) ≡ run (pageState 0 b ∷ []) (sector t l)
-mark-sector t b l =
-    ap (λ (k : ℕ). sector t (run (pageState k b ∷ []) l)) (sym (add-zero (t * 4096)))
-    ∙ sector-local t (pageState 0 b ∷ []) l (every-one (Fit 4096) _ (omega arith))
 
 module _ (L : List ℕ) (s : ℕ) (G : Good L s) (small : (i : ℕ) → getD L i 0 < 256) where
   abbrev n : ℕ
@@ -243,29 +230,20 @@ module _ (L : List ℕ) (s : ℕ) (G : Good L s) (small : (i : ℕ) → getD L i
     abbrev lf : List ℕ
     lf = run (markFull t ∷ []) l
 
-    m-others : (u : ℕ) → (u ≡ t → ⊥) → sector u lf ≡ sector u l
-    m-others u k = sector-kept u t (markFull t ∷ []) l k (mark-in t 0xFC)
+    t-here : t < sectorsOf l
+    t-here = rw (n-same L s G l D) (T .here)
 
-    len-st : length (sector t l) ≡ 4096
-    len-st = length-sector t l ∙ (let z = room L s G small l (D .len) t (T .here) in omega arith)
+    full-others : (u : ℕ) → (u ≡ t → ⊥) → sector u lf ≡ sector u l
+    full-others = m-others l t t-here mk
 
-    m-at : sector t lf ≡ run (pageState 0 0xFC ∷ []) (sector t l)
-    m-at = mark-sector t 0xFC l
-
-    m-full : stateOf (sector t lf) ≡ Full
-    m-full = rw m-at (to-full (sector t l) (let z = len-st in omega arith) mk)
-
-    m-items : itemsOf (sector t lf) ≡ itemsOf (sector t l)
-    m-items =
-        let z = len-st in
-        let y = to-full (sector t l) (omega arith) mk in
-        rw m-at (items-same (sector t l) (run (pageState 0 0xFC ∷ []) (sector t l)) (marked-drop (sector t l) 0xFC (omega arith) 32 (omega arith)) (rw (y, mk)))
+    is-full : stateOf (sector t lf) ≡ Full
+    is-full = m-full l t t-here mk
 
     m-side : Side L lf s
-    m-side = record { len = length-run (markFull t ∷ []) l ∙ D .len; kept = λ u h k e. m-others u (target-apart L l t q T u e) ∙ D .kept u h k e }
+    m-side = record { len = length-run (markFull t ∷ []) l ∙ D .len; kept = λ u h k e. full-others u (target-apart L l t q T u e) ∙ D .kept u h k e }
 
     m-source : Source L lf s
-    m-source = let z = m-others s (target-apart L l t q T s (G .page)) in record { state = rw z (R .state); seq = rw z (R .seq); items = rw z (R .items) }
+    m-source = let z = full-others s (target-apart L l t q T s (G .page)) in record { state = rw z (R .state); seq = rw z (R .seq); items = rw z (R .items) }
 
     m-target : Target L lf t q
     m-target =
@@ -274,8 +252,8 @@ module _ (L : List ℕ) (s : ℕ) (G : Good L s) (small : (i : ℕ) → getD L i
           was = T .was;
           above = T .above;
           bound = T .bound;
-          rest = λ u h k f. rw (m-others u k) (T .rest u h k f);
-          seq = rw m-at (marked-sequence (sector t l) 0xFC (let z = len-st in omega arith) ∙ T .seq);
+          rest = λ u h k f. rw (full-others u k) (T .rest u h k f);
+          seq = m-sequence l t t-here mk ∙ T .seq;
         }
 
     part-full : noRoom (sector t l) ≡ true → Runs L s l
@@ -283,16 +261,16 @@ module _ (L : List ℕ) (s : ℕ) (G : Good L s) (small : (i : ℕ) → getD L i
         let nn : noEmpty N ≡ true = room-is ∙ ne in
         let kn : keptAs N ≡ asFull N = rw nn in
         let k0 : ordering (pages l) ≡ markFull t ∷ [] = O .steps ∙ rw nn in
-        let E : raws (itemsOf (sector t lf)) ≡ raws X = rw m-items (P .complete ne) in
+        let E : raws (itemsOf (sector t lf)) ≡ raws X = rw (m-items l t t-here mk) (P .complete ne) in
         let which : (p : Page) → p ∈ qs → (p ≡ S) ⊎ ((p ≡ asFull N) ⊎ Old L s p) = (λ p m. ⊎-elim (λ k. inl k) (λ k. inr (⊎-elim (λ z. inl (z ∙ kn)) (λ z. inr z) k)) (from-q p m)) in
         let marked : TargetRecord Full q (asFull N .seen) = record { in-state = refl; has-sequence = W .has-sequence } in
         let e2 : finishOn qs (frees l) lf ≡ erase s ∷ rescan (erase s ∷ []) lf =
-        full-steps L s G small lf t q m-side m-source m-target m-full E (recordOf (sector s l)) (asFull N .seen) K marked qs (frees l) which old-q source-q
+        full-steps L s G small lf t q m-side m-source m-target is-full E (recordOf (sector s l)) (asFull N .seen) K marked qs (frees l) which old-q source-q
         (rw kn at (O .itself)) one-q in
         let f = markFull t ∷ (erase s ∷ []) in
         let e : plain l ≡ markFull t ∷ (erase s ∷ rescan (markFull t ∷ (erase s ∷ [])) l) = rec-some l one-q ∙ rw (k0, e2, run-one (markFull t) (erase s ∷ []) l) in
-        let Z = e-done L s G small lf m-side t q m-target m-full E in
-        record { steps = f; is = e; cut = cuts-of (full t q m-side m-source m-target m-full E) (Z .0); end = rw (run-one (markFull t) (erase s ∷ []) l) (Z .1) }
+        let Z = e-done L s G small lf m-side t q m-target is-full E in
+        record { steps = f; is = e; cut = cuts-of (full t q m-side m-source m-target is-full E) (Z .0); end = rw (run-one (markFull t) (erase s ∷ []) l) (Z .1) }
       where
         cuts-of : State L s lf → State L s (run (erase s ∷ []) lf) → (k : ℕ) → State L s (run (take k (markFull t ∷ (erase s ∷ []))) l)
         cuts-of a b zero = rw (run-nil l) state

@@ -1,8 +1,8 @@
--- What the premises of demand 3 give: every page is Full, recovery makes no step, and the items are calm. Assumes nothing.
+-- What the premises of demand 3 and of its general form give: every page is Full, and the items are tidy. Assumes nothing.
 use mathlib.Core.Path.{_≡_, ap, refl}
 use mathlib.Core.Logic.{⊎-elim}
 use mathlib.Core.Bool.{Bool, _&&_, _||_, false, true}
-use mathlib.Core.List.{List, []}
+use mathlib.Core.List.{List}
 use Prim.Native.Nat.{_*_, _+_, _<_, ℕ}
 use native.Mathlib.Omega.{arith}
 use lib.Dec.{eqb, ltb}
@@ -29,18 +29,14 @@ use Rattle.table.proofs.Pages.{in-pages}
 use Rattle.table.proofs.Records.{record-sequence}
 use Rattle.found.specs.Found.{Found, found, foundOn, isPart}
 use Rattle.found.proofs.Keys.{key-lt, part-small}
-use Rattle.power.specs.Demand3.{Store, total}
-use Rattle.power.proofs.Quiet.{calm-stable}
-use Rattle.quick.specs.Calm.{Calm}
-use Rattle.power.proofs.Plain.{plain, plain-same}
+use Rattle.power.specs.Demand3.{Premises}
 use Rattle.power.proofs.State.{Good}
 use Rattle.power.proofs.Calm.{Tidy}
-use Rattle.power.proofs.Unchanged.{no-steps}
 use Rattle.power.proofs.Steps.{free-neither}
 use Rattle.power.proofs.Items.{walk-in}
 use Rattle.power.proofs.Totals.{total-found}
 
-module _ (L : List ℕ) (S : Store L) where
+module _ (L : List ℕ) (S : Premises L) where
   abbrev n : ℕ
   n = sectorsOf L
 
@@ -67,7 +63,7 @@ module _ (L : List ℕ) (S : Store L) where
       go false e = e
 
   -- the same of a sector
-  state-of : (u : ℕ) → u < n → (active (stateOf (sector u L)) ≡ false) × (freeing (stateOf (sector u L)) ≡ false)
+  pub state-of : (u : ℕ) → u < n → (active (stateOf (sector u L)) ≡ false) × (freeing (stateOf (sector u L)) ≡ false)
   state-of u h = go (isFree (stateOf (sector u L))) refl
     where
       go : (b : Bool) → isFree (stateOf (sector u L)) ≡ b → (active (stateOf (sector u L)) ≡ false) × (freeing (stateOf (sector u L)) ≡ false)
@@ -106,7 +102,8 @@ module _ (L : List ℕ) (S : Store L) where
       rw (walk-in (sector u L) 126 0 i m .bytes)
       (part-small (sector u L) (64 + i .entry * 32) (spanOf (entryAt (sector u L) (i .entry)) * 32) (λ k. unfold sector in part-small L (u * 4096) 4096 (S .bytes) k) j)
 
-  tidy : Tidy (found (pages L) L)
+  -- their keys are 16 bytes, and no part is of namespace 0
+  pub tidy : Tidy (found (pages L) L)
   unfolding found foundOn
   tidy x m =
       let g = flatMap-in (foundOn L) (pages L) x m in
@@ -122,11 +119,3 @@ module _ (L : List ℕ) (S : Store L) where
           let c = S .part-in-0 in
           let d : f (x .raw) ≡ 1 = rw (both-is (isPart (x .raw)) (eqb (namespaceOf (x .raw)) 0) ip (eq-eqb _ 0 z)) in
           omega arith
-
-  -- recovery makes no step on it
-  pub no-step : plain L ≡ []
-  no-step = no-steps L no-active no-freeing (rw (plain-same L) at (S .unchanged))
-
-  -- and so its items are calm
-  pub calm-items : Calm (λ (f : List ℕ → ℕ). total f L)
-  calm-items = calm-stable L (λ u h. state-of u h .0) (λ u h. state-of u h .1) tidy no-step

@@ -31,7 +31,7 @@ use Rattle.table.proofs.Records.{record-sequence}
 use Rattle.answer.specs.declared.Answer.the-variants.{ActiveStands, NotReclaimable, SequencesSpent}
 use Rattle.reclaim.specs.declared.plan.Plan.the-variants.{Clear, Move, Refuse}
 use Rattle.reclaim.specs.Reclaim.{candidate, chosen, closed, next, plan, planSteps, planTo, planWith, reclaiming}
-use Rattle.power.specs.Demand3.{Store}
+use Rattle.power.specs.Demand3.{Premises}
 use Rattle.power.proofs.Runs.{run-one}
 use Rattle.power.proofs.Unmade.{move-runs}
 use Rattle.power.proofs.Finish.{Seq}
@@ -41,9 +41,9 @@ use Rattle.power.proofs.Ends.{e-gone}
 use Rattle.power.proofs.State.{AllFree, Good, Side, Source, State}
 use Rattle.power.proofs.Premises.{good}
 use Rattle.power.proofs.Items.{listed-items}
-use Rattle.power.proofs.Partly.{mark-sector}
+use Rattle.power.proofs.Marks.{mark-sector}
 
-module _ (L : List ℕ) (S : Store L) where
+module _ (L : List ℕ) (S : Premises L) where
   abbrev n : ℕ
   n = sectorsOf L
 

@@ -1,7 +1,7 @@
 -- What is to hold of recovery on an image, and where there is nothing to finish. Assumes nothing.
 use mathlib.Core.Path.{_∙_, _≡_, refl}
 use mathlib.Core.Option.{none}
-use mathlib.Core.List.{List, [], _++_, _∷_, append-nil}
+use mathlib.Core.List.{List, [], _++_, _∷_}
 use Prim.Native.Nat.{ℕ}
 use lib.ListN.{take}
 use lib.Seq.{take-nil}
@@ -9,10 +9,7 @@ use Rattle.flash.specs.Step.{Step, run}
 use Rattle.table.specs.Table.{frees, pages}
 use Rattle.order.specs.Order.{kept, ordered, ordering}
 use Rattle.finishing.specs.Finishing.{freeings}
-use Rattle.power.specs.Demand3.{total}
-use Rattle.power.proofs.Quiet.{order-idle, order-none, plain-rest}
-use Rattle.quick.specs.Calm.{Calm}
-use Rattle.quick.proofs.Idle.{calm-same}
+use Rattle.power.proofs.Quiet.{order-none, plain-rest}
 use Rattle.power.proofs.Plain.{finishOn, onward, plain, rescan}
 use Rattle.power.proofs.State.{State}
 use Rattle.power.proofs.Steps.{Final}
@@ -52,10 +49,3 @@ idle-runs L s l S F =
       cut = λ k. rw (take-nil {A = Step} k, run-nil l) S;
       end = rw (run-nil l) F;
     }
-
--- where the items of the store are calm, that is all
-pub calm-runs : (L : List ℕ) (s : ℕ) → Calm (λ (f : List ℕ → ℕ). total f L) → (l : List ℕ) (R : Runs L s l) → plain l ≡ R .steps
-calm-runs L s C l R =
-    let F = R .end in
-    let c = calm-same (λ (f : List ℕ → ℕ). total f (run (R .steps) l)) (λ (f : List ℕ → ℕ). total f L) (F .totals) C in
-    R .is ∙ rw (order-idle (run (R .steps) l) (F .rest) c) (append-nil (R .steps))

@@ -57,9 +57,9 @@ pub record Partial (S T : List ℕ) : Type 0 where
   pub sub : (y : Laid) → y ∈ itemsOf T → (x : Laid) × (x ∈ itemsOf S) × (y .raw ≡ x .raw)
   pub complete : noRoom T ≡ true → raws (itemsOf T) ≡ raws (itemsOf S)
 
--- an Active page with an Empty entry, or a Full one: stage 1 leaves it
+-- an Active page or a Full one
 abbrev pub Settled : List ℕ → Type 0
-Settled T = ((stateOf T ≡ Active) × (noRoom T ≡ false)) ⊎ (stateOf T ≡ Full)
+Settled T = (stateOf T ≡ Active) ⊎ (stateOf T ≡ Full)
 
 -- the images: none of them fixes the target or its sequence, so recovery may take another
 pub data State (L : List ℕ) (s : ℕ) (l : List ℕ) : Type 0 where

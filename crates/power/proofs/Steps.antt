@@ -24,9 +24,9 @@ use Rattle.table.proofs.Pages.{length-frees}
 use Rattle.power.specs.Demand3.{total}
 use Rattle.power.proofs.State.{AllFree, Good, Partial, Settled, Side, Source, State, Target, done, full, junk, partly, target-apart}
 use Rattle.power.proofs.Move.{Cut, blank-free, ended, going, ready, unmade}
+use Rattle.power.proofs.Lone.{Lone}
 use Rattle.power.proofs.Quiet.{Rest}
 use Rattle.power.proofs.Finish.{Seq}
-use Rattle.power.proofs.Read.{noRoom}
 use Rattle.power.proofs.Shape.{AllFine, raws}
 use Rattle.power.proofs.Items.{free-none}
 use Rattle.found.proofs.Keys.{part-small}
@@ -108,7 +108,7 @@ module _ (L : List ℕ) (s : ℕ) (G : Good L s) (small : (i : ℕ) → getD L i
           partly t q (side-of (λ u a b. o u a)) (source-of o) (target-of (λ u a b. o u a) (going-seq q X (sector t m) q-small g))
           (going-active q X (sector t m) g) (going-partial q X (sector t m) (sector s L) refl g)
       cut-state (ready o r) = ⊎-elim
-          (λ k. partly t q (side-of (λ u a b. o u a)) (source-of o) (target-of (λ u a b. o u a) (ready-seq q X (sector t m) q-small r)) (k .0) (all-there (ready-items q X (sector t m) r)))
+          (λ k. partly t q (side-of (λ u a b. o u a)) (source-of o) (target-of (λ u a b. o u a) (ready-seq q X (sector t m) q-small r)) k (all-there (ready-items q X (sector t m) r)))
           (λ k. full t q (side-of (λ u a b. o u a)) (source-of o) (target-of (λ u a b. o u a) (ready-seq q X (sector t m) q-small r)) k (ready-items q X (sector t m) r))
           (ready-settled q X (sector t m) r)
         where
@@ -163,7 +163,7 @@ module _ (L : List ℕ) (s : ℕ) (G : Good L s) (small : (i : ℕ) → getD L i
         (λ k. ⊎-elim (λ z. z) (λ z. absurd (⊎-elim (λ w. true≢false e (rw (w .2))) (λ w. true≢false e (free-neither (stateOf (sector u m)) (w .0) .0)) z)) k) (which u h)
 
     at-t : (u : ℕ) → u ≡ t → Settled (sector t m) → freeing (stateOf (sector u m)) ≡ false
-    at-t u k (inl w) = let y : stateOf (sector u m) ≡ Active = ap (λ (v : ℕ). stateOf (sector v m)) k ∙ w .0 in rw y
+    at-t u k (inl w) = let y : stateOf (sector u m) ≡ Active = ap (λ (v : ℕ). stateOf (sector v m)) k ∙ w in rw y
     at-t u k (inr w) = let y : stateOf (sector u m) ≡ Full = ap (λ (v : ℕ). stateOf (sector v m)) k ∙ w in rw y
 
     freeing-no : (u : ℕ) → u < n → freeing (stateOf (sector u m)) ≡ false
@@ -173,21 +173,17 @@ module _ (L : List ℕ) (s : ℕ) (G : Good L s) (small : (i : ℕ) → getD L i
 
     -- the target holds the source's items: the sums are the store's
     pub done-final : Final L m
+    unfolding Lone
     done-final = record {
       len = D .len;
       rest = record {
         no-freeing = λ u h. freeing-no u (rw nm at h);
-        room = λ u h e. room-t u (active-t u (rw nm at h) e) e W;
-        only = λ u v hu hv eu ev. active-t u (rw nm at hu) eu ∙ sym (active-t v (rw nm at hv) ev);
+        lone = λ u v hu hv eu ev. active-t u (rw nm at hu) eu ∙ sym (active-t v (rw nm at hv) ev);
       };
       totals = λ f. total-from f m (D .len) (sumTo-two (onSector f m) (onSector f L) n s t (G .here) (T .here) s-not-t (same-at f) (swap f));
       free = free-from m (D .len) (sumTo-two-le (freeAt L) (freeAt m) n s t (G .here) (T .here) s-not-t free-same free-swap);
     }
       where
-        room-t : (u : ℕ) → u ≡ t → active (stateOf (sector u m)) ≡ true → Settled (sector t m) → noRoom (sector u m) ≡ false
-        room-t u k e (inl w) = rw k (w .1)
-        room-t u k e (inr w) = let y : stateOf (sector u m) ≡ Full = ap (λ (v : ℕ). stateOf (sector v m)) k ∙ w in absurd (true≢false e (rw y))
-
         same-at : (f : List ℕ → ℕ) (u : ℕ) → u < n → (u ≡ s → ⊥) → (u ≡ t → ⊥) → onSector f m u ≡ onSector f L u
         same-at f u h a b =
             ⊎-elim (λ k. absurd (a k))
@@ -225,14 +221,14 @@ module _ (L : List ℕ) (s : ℕ) (G : Good L s) (small : (i : ℕ) → getD L i
 
     -- the source had no items: the sums are the store's
     pub gone-final : Final L m
+    unfolding Lone
     gone-final =
         let nm : sectorsOf m ≡ n = ap (λ (k : ℕ). k / 4096) (D .len) in
         record {
           len = D .len;
           rest = record {
             no-freeing = λ u h. quiet-at u (rw nm at h) .1;
-            room = λ u h e. absurd (true≢false e (quiet-at u (rw nm at h) .0));
-            only = λ u v hu hv eu ev. absurd (true≢false eu (quiet-at u (rw nm at hu) .0));
+            lone = λ u v hu hv eu ev. absurd (true≢false eu (quiet-at u (rw nm at hu) .0));
           };
           totals = λ f. total-from f m (D .len) (sumTo-ext (onSector f m) (onSector f L) n (same-at f));
           free = free-from m (D .len) (sumTo-one-le (freeAt L) (freeAt m) n s (G .here) free-same (let a : freeAt L s ≡ 0 = rw (G .page) in omega arith));
@@ -259,10 +255,11 @@ module _ (L : List ℕ) (s : ℕ) (G : Good L s) (small : (i : ℕ) → getD L i
 
   -- is such an image
   pub same-final : Final L L
+  unfolding Lone
   same-final = record {
     len = refl;
     rest =
-        record { no-freeing = λ u h. full-or-free u h .1; room = λ u h e. absurd (true≢false e (full-or-free u h .0)); only = λ u v hu hv eu ev. absurd (true≢false eu (full-or-free u hu .0)) };
+        record { no-freeing = λ u h. full-or-free u h .1; lone = λ u v hu hv eu ev. absurd (true≢false eu (full-or-free u hu .0)) };
     totals = λ f. refl;
     free = omega arith;
   }

@@ -4,7 +4,7 @@
 -- held before, each once, header and payload byte for byte, and no fewer free sectors. A step is one 4-byte word programmed or one sector erased."
 -- Reclaim's and recovery's lists of steps are those that the calls' promises cite. Assumes nothing.
 use mathlib.Core.Path.{_≡_}
-use mathlib.Core.Bool.{Bool, true, false, _&&_, _||_}
+use mathlib.Core.Bool.{true, false, _&&_, _||_}
 use mathlib.Core.List.{List, [], _∷_, flatMap}
 use Prim.Native.Nat.{ℕ, _≤_, _<_}
 use lib.Dec.{eqb, ltb}
@@ -33,13 +33,12 @@ total f l = sumOf (λ (i : Laid). f (i .raw)) (stored l)
 abbrev pub held : List ℕ → List ℕ → ℕ
 held x l = total (λ (r : List ℕ). one (sameBytes r x)) l
 
-pub record Store (l : List ℕ) : Type 0 where
+-- the premises that the general form (General.antt) has too
+pub record Premises (l : List ℕ) : Type 0 where
   -- an image is made of bytes
   pub bytes : (i : ℕ) → getD l i 0 < 256
   -- "that recovery accepts"
   pub accepts : accepted l ≡ true
-  -- "and leaves unchanged"
-  pub unchanged : run (untag (recovering l)) l ≡ l
   -- "no blob part in namespace 0"
   pub part-in-0 : total (λ (r : List ℕ). one (isPart r && eqb (namespaceOf r) 0)) l ≡ 0
   -- "no Active or Freeing page"
@@ -52,6 +51,11 @@ pub record Store (l : List ℕ) : Type 0 where
   pub below : every (λ (p : Page). ltb (sequence p) 0xFFFFFFF0) (pages l) ≡ true
   -- "no two items sharing namespace, key and chunk index"
   pub unshared : (x : List ℕ) → total (λ (r : List ℕ). one (sameBytes (nameOf r) x)) l ≤ 1
+
+pub record Store (l : List ℕ) : Type 0 where
+  pub premises : Premises l
+  -- "and leaves unchanged"
+  pub unchanged : run (untag (recovering l)) l ≡ l
 
 -- recovery begun, and cut after k steps, for each k of the list
 unfoldable pub recoveries : List ℕ → List ℕ → List ℕ

@@ -1,3 +1,4 @@
 pub mod Demand3
 pub mod Cuts
+pub mod General
 pub mod Calls

@@ -1,6 +1,6 @@
 -- Stages 3 and 4 make no step where the items are calm. Assumes nothing.
 use mathlib.Core.Path.{_∙_, _≡_, fun-ext, refl, sym}
-use mathlib.Core.Bool.{Bool, _&&_, _||_, cond, false, true}
+use mathlib.Core.Bool.{Bool, _||_, cond, false, true}
 use mathlib.Core.Option.{Option, none, some}
 use mathlib.Core.List.{List, [], _∷_, flatMap, map}
 use Prim.Native.Nat.{_+_, _-_, _/_, _≤_, suc, ℕ}
@@ -51,6 +51,45 @@ pub eraseAll-nil : (xs : List Found) → xs ≡ [] → eraseAll xs ≡ []
 unfolding eraseAll flatMap
 eraseAll-nil xs e = rw e
 
+-- ---- of two versions of a key none is the older where they have one index at most
+-- a version that is sound has an index
+has-index : (fs : List Found) (v : ℕ) → soundOne v fs (counting v fs) ≡ true → 1 ≤ tot (λ (r : List ℕ). one (indexOf v r)) fs
+has-index fs v e = go (counting v fs) refl e
+  where
+    go : (o : Option Found) → counting v fs ≡ o → soundOne v fs o ≡ true → 1 ≤ tot (λ (r : List ℕ). one (indexOf v r)) fs
+    go none q k = unfold soundOne in absurd (true≢false k refl)
+    go (some i) q k =
+        let m = keep-in (λ (x : Found). indexOf v (x .raw)) fs i (best-in newer (indices v fs) i (unfold counting in q)) in
+        let g = sum-ge (λ (x : Found). one (indexOf v (x .raw))) fs i (m .0) in
+        let z = one-true (indexOf v (i .raw)) (m .1) in
+        omega arith
+
+pub older-idle : (fs : List Found) (g : ℕ) → tot (λ (r : List ℕ). one (indexOf (versionIn g 0) r)) fs + tot (λ (r : List ℕ). one (indexOf (versionIn g 0x80) r)) fs ≤ 1
+    → older fs g ≡ []
+unfolding older bothSound
+older-idle fs g h = go (bothSound fs (versionIn g 0) (versionIn g 0x80)) refl
+  where
+    go : (b : Bool) → bothSound fs (versionIn g 0) (versionIn g 0x80) ≡ b → cond b (olderWith (versionIn g 0) (versionIn g 0x80) fs (newestOf g fs)) [] ≡ []
+    go false q = refl
+    go true q =
+        let a = has-index fs (versionIn g 0) (both-first (soundOne (versionIn g 0) fs (counting (versionIn g 0) fs)) _ q) in
+        let b = has-index fs (versionIn g 0x80) (both-second (soundOne (versionIn g 0) fs (counting (versionIn g 0) fs)) _ q) in
+        absurd (omega arith)
+
+-- ---- stage 4 erases nothing where no group has two items
+module _ (fs : List Found) (single : (g : ℕ) → tot (λ (r : List ℕ). one (inGroup g r)) fs ≤ 1) where
+  outdated-none : (g : ℕ) → outdated fs g ≡ []
+  unfolding outdated flatMap
+  outdated-none g =
+      let a = single g in
+      let b = length-keep (λ (x : Found). inGroup g (x .raw)) fs in
+      let c = length-sort olderThan (members g fs) in
+      rw (dropLast-short (sortBy olderThan (members g fs)) (omega arith))
+
+  pub duplicates-none : duplicateSteps fs ≡ []
+  unfolding duplicateSteps onceEach
+  duplicates-none = rw (flatMap-none (outdated fs) (groups fs) (λ g m. outdated-none g)) (eraseAll-nil [] refl)
+
 -- ---- from the sums to idleness
 module _ (fs : List Found) (C : Calm (λ (f : List ℕ → ℕ). tot f fs)) where
   index-only : (v : ℕ) → 1 ≤ tot (λ (r : List ℕ). one (indexOf v r)) fs → (i : Found) × (indices v fs ≡ i ∷ [])
@@ -72,36 +111,12 @@ module _ (fs : List Found) (C : Calm (λ (f : List ℕ → ℕ). tot f fs)) wher
       let i = index-only v n in
       rw (i .1, sound-is v (i .0) (i .1) n)
 
-  -- (sound: && both) have an index
-  has-index : (v : ℕ) → soundOne v fs (counting v fs) ≡ true → 1 ≤ tot (λ (r : List ℕ). one (indexOf v r)) fs
-  has-index v e = go (counting v fs) refl e
-    where
-      go : (o : Option Found) → counting v fs ≡ o → soundOne v fs o ≡ true → 1 ≤ tot (λ (r : List ℕ). one (indexOf v r)) fs
-      go none q k = unfold soundOne in absurd (true≢false k refl)
-      go (some i) q k =
-          let m = keep-in (λ (x : Found). indexOf v (x .raw)) fs i (best-in newer (indices v fs) i (unfold counting in q)) in
-          let g = sum-ge (λ (x : Found). one (indexOf v (x .raw))) fs i (m .0) in
-          let z = one-true (indexOf v (i .raw)) (m .1) in
-          omega arith
-
-  older-idle : (g : ℕ) → older fs g ≡ []
-  unfolding older bothSound
-  older-idle g = go (bothSound fs (versionIn g 0) (versionIn g 0x80)) refl
-    where
-      go : (b : Bool) → bothSound fs (versionIn g 0) (versionIn g 0x80) ≡ b → cond b (olderWith (versionIn g 0) (versionIn g 0x80) fs (newestOf g fs)) [] ≡ []
-      go false q = refl
-      go true q =
-          let a = has-index (versionIn g 0) (both-first (soundOne (versionIn g 0) fs (counting (versionIn g 0) fs)) _ q) in
-          let b = has-index (versionIn g 0x80) (both-second (soundOne (versionIn g 0) fs (counting (versionIn g 0) fs)) _ q) in
-          let c = C .not-both g in
-          absurd (omega arith)
-
   -- stage 3 makes no step
   pub blob-idle : blobSteps fs ≡ []
   unfolding blobSteps
   blob-idle =
       let p = flatMap-none (judge fs) (ascending (map (λ (x : Found). versionOf (x .raw)) (keep (λ (x : Found). isPart (x .raw)) fs))) (λ v m. one-version v (ascending-in _ v m)) in
-      let q = flatMap-none (older fs) (ascending (map (λ (x : Found). groupOf (x .raw)) (keep (λ (x : Found). isIndex (x .raw)) fs))) (λ g m. older-idle g) in
+      let q = flatMap-none (older fs) (ascending (map (λ (x : Found). groupOf (x .raw)) (keep (λ (x : Found). isIndex (x .raw)) fs))) (λ g m. older-idle fs g (C .not-both g)) in
       rw (p, q)
     where
       one-version : (v : ℕ) → v ∈ map (λ (x : Found). versionOf (x .raw)) (keep (λ (x : Found). isPart (x .raw)) fs) → judge fs v ≡ []
@@ -112,15 +127,6 @@ module _ (fs : List Found) (C : Calm (λ (f : List ℕ → ℕ). tot f fs)) wher
           let z = one-true (partOf v (r .0 .raw)) (both-is (isPart (r .0 .raw)) (eqb (versionOf (r .0 .raw)) v) (k .1) (eq-eqb _ v (sym (r .2)))) in
           judge-idle v (omega arith)
 
-  outdated-none : (g : ℕ) → outdated fs g ≡ []
-  unfolding outdated flatMap
-  outdated-none g =
-      let a = C .single g in
-      let b = length-keep (λ (x : Found). inGroup g (x .raw)) fs in
-      let c = length-sort olderThan (members g fs) in
-      rw (dropLast-short (sortBy olderThan (members g fs)) (omega arith))
-
-  -- stage 4 erases nothing
+  -- and stage 4 erases nothing
   pub duplicate-idle : duplicateSteps fs ≡ []
-  unfolding duplicateSteps onceEach
-  duplicate-idle = rw (flatMap-none (outdated fs) (groups fs) (λ g m. outdated-none g)) (eraseAll-nil [] refl)
+  duplicate-idle = duplicates-none fs (C .single)
