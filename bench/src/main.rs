@@ -179,7 +179,9 @@ fn measure_stacks() {
         ("recovery: 16 sectors, a reclaim cut", half_reclaimed(), recover),
     ] {
         let mut copy = image.to_vec();
-        let bytes = stack::depth(|| call(&mut copy));
+        let bytes = stack::depth(|| {
+            black_box(call(&mut copy));
+        });
         println!("{what:<46}{bytes:>9}");
         assert!(bytes <= MOST_STACK, "{what}: more than {MOST_STACK} bytes of stack");
     }
@@ -215,10 +217,9 @@ fn time_recoveries() {
         time_calls(what, &image, limit, Some(recover), of_crate::RECOVER);
     }
     // the slow path: the crate's rules differ on these, so it is not run beside
-    for (what, image) in [
-        ("recovery: 16 sectors, 882 items twice", doubled()),
-        ("recovery: 16 sectors, 465 unsound blobs", unsound()),
-    ] {
+    for (what, image) in
+        [("recovery: 16 sectors, 882 items twice", doubled()), ("recovery: 16 sectors, 465 unsound blobs", unsound())]
+    {
         let limit = || headers_of(&image) ^ entries_of(&image);
         time_calls(what, &image, limit, Some(recover), None);
     }

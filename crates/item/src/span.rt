@@ -73,15 +73,16 @@ pub fn mark_erased(image: &mut [u8], base: usize, j: usize, n: usize, allowed: u
     ensures { λ r. ⌜ Did (unmarking base j n) allowed (now (image .entry)) (now (image .exit)) r ⌝ }
 {
     let mut left = allowed;
-    let first = j / 16;
-    let mut w = (j + (n - 1)) / 16 + 1;
-    while first < w {
-        w -= 1;
+    // where those begin that are set already
+    let mut end = j + n;
+    while j < end {
+        let w = (end - 1) / 16;
         let r = state_word(image, base, j, n, 3, w, left);
         let Ran::Done(rest) = r else {
             return Ran::Stopped;
         };
         left = rest;
+        end = w * 16;
     }
     Ran::Done(left)
 }
