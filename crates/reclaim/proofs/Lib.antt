@@ -1,4 +1,3 @@
 pub mod Choosing
 pub mod Planned
-pub mod Made
 pub mod Promised
