@@ -3,7 +3,6 @@ use mathlib.Core.Path.{_≡_, refl, sym, ap₂, _∙_, subst}
 use mathlib.Core.Bool.{true, false}
 use mathlib.Core.Logic.{⊎-elim}
 use native.Mathlib.Omega.{arith}
-use borrow.Author.Needs.{needs}
 use Rattle.page.proofs.Tests.{not-true, not-false}
 use Rattle.table.specs.Table.{wholeSectors, pages, frees}
 use Rattle.reclaim.specs.Reclaim.{plan, planSteps}
