@@ -19,7 +19,7 @@ use Rattle.answer.specs.declared.Went.the-variants.{Ended, Short}
 use Rattle.answer.specs.declared.Answer.the-variants.{Done as DoneAll, Stopped as StoppedAt}
 use Rattle.answer.specs.Answer.{numberOf}
 use Rattle.answer.specs.Staged.{Staged, tag, untag, left, stoppedAt, answerOf}
-use Rattle.answer.specs.Went.{wentTo, went, Made, Making, toldOf}
+use Rattle.answer.specs.Went.{wentTo, went, Made, Making, inStage, toldOf}
 use Rattle.answer.proofs.Tagged.{length-tag, left-none}
 
 -- ---- lists
@@ -140,14 +140,13 @@ module _ {n : ℕ} {l m : List ℕ} where
   pub made-all : {ts : List Staged} {k : ℕ} → Made ts n l m (Ended k) → m ≡ run (untag ts) l
   made-all d = did-all (ended-did d)
 
-  pub made-tag : (x : Stage) {ss : List Step} {k : ℕ} → Did ss n l m (Done k) → Made (tag x ss) n l m (Ended k)
-  made-tag x {ss} {k} d =
+  -- steps of one stage
+  pub made-tag : (x : Stage) {ss : List Step} {r : Ran} → Did ss n l m r → Made (tag x ss) n l m (inStage x r)
+  made-tag x {ss} {r = Done k} d =
       let h = ran-done n (length ss) k (d .answer) in
       let e = length-tag x ss in
       record { image = rw (untag-only x ss) (d .image); answer = ap Ended (h .1) ∙ sym (rw e at (went-le n (tag x ss) (omega arith))) }
-
-  pub made-tag-short : (x : Stage) {ss : List Step} → Did ss n l m Stopped → Made (tag x ss) n l m (Short x)
-  made-tag-short x {ss} d = record { image = rw (untag-only x ss) (d .image); answer = sym (tag-short n x ss (ran-stopped n (length ss) (d .answer))) }
+  made-tag x {ss} {r = Stopped} d = record { image = rw (untag-only x ss) (d .image); answer = sym (tag-short n x ss (ran-stopped n (length ss) (d .answer))) }
 
 -- ---- one after the other
 
@@ -185,7 +184,7 @@ module _ {T ts : List Staged} {N n : ℕ} {L l : List ℕ} (g : Making T N L ts 
 
   -- steps that stopped
   pub making-stop : (x : Stage) {ss : List Step} {m : List ℕ} {r : Ran} (us : List Staged) → ts ≡ tag x ss ++ us → Did ss n l m r → r ≡ Stopped → Made T N L m (Short x)
-  making-stop x us e d q = g .on _ _ (rw e (made-stop us (made-tag-short x (rw q at d))))
+  making-stop x us e d q = g .on _ _ (rw e (made-stop us (made-tag x (rw q at d))))
 
   -- nothing left
   pub making-end : ts ≡ [] → Made T N L l (Ended n)

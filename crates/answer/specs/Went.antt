@@ -3,7 +3,10 @@ use mathlib.Core.Path.{_≡_}
 use mathlib.Core.List.{List, [], _∷_}
 use Prim.Native.Nat.{ℕ, _-_}
 use lib.ListN.{length, take}
+use Rattle.flash.specs.declared.Ran.{Ran}
+use Rattle.flash.specs.declared.Ran.the-variants.{Done as All, Stopped as NotAll}
 use Rattle.flash.specs.Step.{run}
+use Rattle.answer.specs.declared.Stage.{Stage}
 use Rattle.answer.specs.declared.Went.{Went}
 use Rattle.answer.specs.declared.Went.the-variants.{Ended, Short}
 use Rattle.answer.specs.declared.Answer.{Answer}
@@ -27,6 +30,11 @@ pub record Made (ts : List Staged) (n : ℕ) (l m : List ℕ) (r : Went) : Type 
 -- time round a loop
 pub record Making (T : List Staged) (N : ℕ) (L : List ℕ) (ts : List Staged) (n : ℕ) (l : List ℕ) : Type 0 where
   pub on : (m : List ℕ) (r : Went) → Made ts n l m r → Made T N L m r
+
+-- steps that are all of the stage x: whether they were all made says how far they went
+abbrev pub inStage : Stage → Ran → Went
+inStage x (All k) = Ended k
+inStage x NotAll = Short x
 
 -- the answer of a call, to which n steps were allowed
 abbrev pub toldOf : Went → ℕ → Answer

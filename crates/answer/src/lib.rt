@@ -1,7 +1,8 @@
 // What a call answers, and the stages of a stopped one.
+use flash::Ran;
 ghost use mathlib.Core.Path.{_≡_};
 ghost use Rattle.answer.specs.Answer.{numberOf, stepsOf};
-ghost use Rattle.answer.specs.Went.{toldOf};
+ghost use Rattle.answer.specs.Went.{inStage, toldOf};
 
 // The stage of the first step that was not made. Finish names its source sector; reclaim is one stage.
 pub enum Stage {
@@ -62,6 +63,16 @@ pub fn steps(answer: Answer) -> u64
         Answer::SequencesSpent => 0,
         Answer::Stopped(_, n) => n,
         Answer::NotReclaimable => 0,
+    }
+}
+
+// What became of steps that are all of one stage.
+pub fn in_stage(stage: Stage, ran: Ran) -> Went
+    ensures { λ r. ⌜ r ≡ inStage stage ran ⌝ }
+{
+    match ran {
+        Ran::Done(left) => Went::Ended(left),
+        Ran::Stopped => Went::Short(stage),
     }
 }
 

@@ -1,31 +1,20 @@
 -- A turn of each loop of stage 1, and a list whose pages are closed one by one. Assumes nothing.
 use mathlib.Core.Path.{_≡_, refl, sym, ap, _∙_}
-use mathlib.Core.Bool.{Bool, true, false, cond}
+use mathlib.Core.Bool.{true, false, cond}
 use mathlib.Core.Option.{some}
 use mathlib.Core.List.{List, [], _∷_, _++_, map}
 use Prim.Native.Nat.{ℕ, suc, _+_, _<_, _≤_}
 use native.Mathlib.Numerals.{add-one}
 use lib.ListN.{length, take, drop, getD, set}
 use lib.Seq.{take-suc, take-suc-set}
-use Rattle.lists.specs.Lists.{keep, best}
+use Rattle.lists.specs.Lists.{keep}
 use Rattle.table.specs.declared.Page.{Page}
 use Rattle.table.specs.Table.{activePage, asFull}
-use Rattle.table.specs.Sought.{soughtOf, betterOf}
-use Rattle.table.proofs.Seeking.{best-more}
 use Rattle.item.specs.Mark.{markFull}
 use Rattle.lists.proofs.Member.{_∈_}
 use Rattle.lists.proofs.Search.{keep-in, best-in}
 use Rattle.order.specs.Order.{kept, others, noEmpty, orderSteps, orderList, ordering, ordered}
-use Rattle.order.specs.Turns.{over, keptOf, closed, fullMarks, keptMark}
-
-pub kept-more : (x : Page) (xs : List Page) → keptOf x (soughtOf (best over (keep activePage xs))) ≡ soughtOf (best over (keep activePage (x ∷ xs)))
-unfolding keptOf keep
-kept-more x xs = go (activePage x)
-  where
-    go : (b : Bool) → cond b (betterOf over x (soughtOf (best over (keep activePage xs)))) (soughtOf (best over (keep activePage xs)))
-        ≡ soughtOf (best over (cond b (x ∷ keep activePage xs) (keep activePage xs)))
-    go true = best-more over x (keep activePage xs)
-    go false = refl
+use Rattle.order.specs.Turns.{over, closed, fullMarks, keptMark}
 
 module _ (x : Page) (xs : List Page) where
   pub marks-active : activePage x ≡ true → fullMarks (x ∷ xs) ≡ markFull (x .sector) ∷ fullMarks xs

@@ -1,4 +1,2 @@
-pub mod Choosing
 pub mod Planned
-pub mod Made
 pub mod Promised

@@ -5,7 +5,7 @@ use mathlib.Core.Option.{Option, none, some}
 use mathlib.Core.List.{List, getLast?}
 use Prim.Native.Nat.{ℕ, _<_}
 use native.Mathlib.Omega.{arith}
-use lib.Dec.{eqb, leb, ltb}
+use lib.Dec.{eqb, ltb}
 use Rattle.page.specs.State.{stateOf, isFree}
 use Rattle.flash.specs.Step.{sector}
 use Rattle.answer.specs.declared.Answer.the-variants.{ActiveStands, SequencesSpent, NotReclaimable}
@@ -17,7 +17,8 @@ use Rattle.table.specs.Table.{sectorsOf, pages, frees, sequence, activePage}
 use Rattle.table.proofs.Pages.{pages-in, frees-in}
 use Rattle.reclaim.specs.declared.plan.Plan.{Plan}
 use Rattle.reclaim.specs.declared.plan.Plan.the-variants.{Refuse, Clear, Move}
-use Rattle.reclaim.specs.Reclaim.{points, candidate, next, closed, chosen, planTo, planWith, plan}
+use Rattle.reclaim.specs.Reclaim.{candidate, next, closed, chosen, planTo, planWith, plan}
+use Rattle.reclaim.specs.Choosing.{over}
 
 -- the sectors that a plan names are in the image, and they are two
 abbrev pub Named : List ℕ → Plan → Type 0
@@ -52,7 +53,7 @@ module _ (l : List ℕ) where
   named-with (some p) e = go (closed (p .seen .state))
     where
       h : p ∈ pages l
-      h = keep-in candidate (pages l) p (best-in (λ (y x : Page). leb (points (next (pages l)) x) (points (next (pages l)) y)) (keep candidate (pages l)) p e) .0
+      h = keep-in candidate (pages l) p (best-in (over (next (pages l))) (keep candidate (pages l)) p e) .0
 
       full : (b : Bool) → Named l (cond b (Clear (p .sector)) (planTo (pages l) (p .sector) (getLast? (frees l))))
       full true = pages-in l p h .1

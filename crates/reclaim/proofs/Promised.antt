@@ -3,24 +3,26 @@ use mathlib.Core.Path.{_≡_, refl, sym, ap, _∙_}
 use mathlib.Core.Bool.{Bool, true, false, cond}
 use mathlib.Core.List.{List, []}
 use Prim.Native.Nat.{ℕ}
-use lib.ListN.{length, take}
+use lib.ListN.{take}
 use lib.Seq.{take-nil}
 use Rattle.flash.specs.declared.Ran.{Ran}
 use Rattle.flash.specs.Step.{Step, run}
-use Rattle.flash.specs.Did.{Did, ran}
+use Rattle.flash.specs.Did.{Did}
 use Rattle.answer.specs.declared.Stage.the-variants.{Reclaim}
 use Rattle.answer.specs.declared.Answer.{Answer}
 use Rattle.answer.specs.declared.Answer.the-variants.{Done, NotSectors, FewRecords, ActiveStands, AllWritten, NoFreeSector, SequencesSpent, Stopped, NotReclaimable}
 use Rattle.answer.specs.Answer.{refusal, stepsOf}
+use Rattle.answer.specs.declared.Went.{Went}
+use Rattle.answer.specs.Went.{inStage, toldOf}
 use Rattle.answer.proofs.Tagged.{made-no-refusal}
+use Rattle.answer.proofs.Made.{made-tag, told-is}
 use Rattle.lists.proofs.Member.{true≢false}
 use Rattle.answer.specs.Staged.{tag, answerOf}
 use Rattle.table.specs.Table.{wholeSectors, pages, frees}
 use Rattle.reclaim.specs.declared.plan.Plan.{Plan}
 use Rattle.reclaim.specs.declared.plan.Plan.the-variants.{Refuse, Clear, Move}
 use Rattle.reclaim.specs.Reclaim.{plan, planSteps, reclaiming}
-use Rattle.reclaim.specs.Promise.{planAnswer, reclaimAnswer, ReclaimPromise, toldOf}
-use Rattle.reclaim.proofs.Made.{told-is}
+use Rattle.reclaim.specs.Promise.{planAnswer, reclaimAnswer, ReclaimPromise}
 
 -- no step, no change
 idle : (n : ℕ) (l : List ℕ) (ss : List Step) → ss ≡ [] → l ≡ run (take n ss) l
@@ -45,11 +47,11 @@ module _ (l : List ℕ) (n : ℕ) where
   promised-refusal a w e = record { image = idle n l (reclaiming l) (steps-of (Refuse a) w e); answer = sym (answer-of (Refuse a) w e) }
 
   pub promised : (p : Plan) (m : List ℕ) (x : Ran) (r : Answer) → wholeSectors l ≡ true → plan (pages l) (frees l) ≡ p
-      → planAnswer n l p ≡ answerOf n (tag Reclaim (planSteps l p)) → Did (planSteps l p) n l m x → r ≡ toldOf x n → ReclaimPromise l n m r
+      → planAnswer n l p ≡ answerOf n (tag Reclaim (planSteps l p)) → Did (planSteps l p) n l m x → r ≡ toldOf (inStage Reclaim x) n → ReclaimPromise l n m r
   promised p m x r w e q d t =
       record {
         image = d .image ∙ ap (λ (ss : List Step). run (take n ss) l) (sym (steps-of p w e));
-        answer = t ∙ ap (λ (y : Ran). toldOf y n) (d .answer) ∙ told-is n (planSteps l p) ∙ sym q ∙ sym (answer-of p w e);
+        answer = t ∙ ap (λ (v : Went). toldOf v n) (made-tag Reclaim d .answer) ∙ told-is n (tag Reclaim (planSteps l p)) ∙ sym q ∙ sym (answer-of p w e);
       }
 
   -- two outcomes that the promise allows are the same

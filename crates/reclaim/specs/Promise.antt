@@ -2,14 +2,12 @@
 use mathlib.Core.Path.{_≡_}
 use mathlib.Core.Bool.{cond}
 use mathlib.Core.List.{List}
-use Prim.Native.Nat.{ℕ, _-_}
+use Prim.Native.Nat.{ℕ}
 use lib.ListN.{take}
-use Rattle.flash.specs.declared.Ran.{Ran}
-use Rattle.flash.specs.declared.Ran.the-variants.{Done as Ended, Stopped as Short}
 use Rattle.flash.specs.Step.{run}
 use Rattle.answer.specs.declared.Stage.the-variants.{Reclaim}
 use Rattle.answer.specs.declared.Answer.{Answer}
-use Rattle.answer.specs.declared.Answer.the-variants.{Done, NotSectors, Stopped}
+use Rattle.answer.specs.declared.Answer.the-variants.{NotSectors}
 use Rattle.answer.specs.Staged.{tag, answerOf}
 use Rattle.table.specs.Table.{wholeSectors, pages, frees}
 use Rattle.reclaim.specs.declared.plan.Plan.{Plan}
@@ -28,8 +26,3 @@ reclaimAnswer l n = cond (wholeSectors l) (planAnswer n l (plan (pages l) (frees
 pub record ReclaimPromise (l : List ℕ) (n : ℕ) (m : List ℕ) (r : Answer) : Type 0 where
   pub image : m ≡ run (take n (reclaiming l)) l
   pub answer : r ≡ reclaimAnswer l n
-
--- the answer of steps that ended with x of n left, or stopped
-abbrev pub toldOf : Ran → ℕ → Answer
-toldOf (Ended x) n = Done (n - x)
-toldOf Short n = Stopped Reclaim n

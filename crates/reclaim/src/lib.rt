@@ -11,23 +11,7 @@ ghost use lib.ListN.{length};
 ghost use Rattle.crc.specs.Table.{crcTable};
 ghost use Rattle.flash.specs.Did.{Did};
 ghost use Rattle.reclaim.specs.Reclaim.{planSteps};
-ghost use Rattle.reclaim.specs.Promise.{toldOf, ReclaimPromise};
-
-// How many steps were made, from how many are left.
-fn told(ran: Ran, allowance: u64) -> Answer
-    ensures { λ r. ⌜ r ≡ toldOf ran allowance ⌝ }
-{
-    match ran {
-        Ran::Done(left) => {
-            if left <= allowance {
-                Answer::Done(allowance - left)
-            } else {
-                Answer::Done(0)
-            }
-        }
-        Ran::Stopped => Answer::Stopped(Stage::Reclaim, allowance),
-    }
-}
+ghost use Rattle.reclaim.specs.Promise.{ReclaimPromise};
 
 // Marks the source Freeing first: a cut before the copy is whole is then seen by recovery, which makes it anew.
 fn move_marked(
@@ -58,14 +42,12 @@ pub fn reclaim(image: &mut [u8], allowance: u64) -> Answer
     let t = crc::table();
     let sectors = image.len() / 4096;
     let plan = plan::plan_of(table::scan(&t, image, sectors));
-    match plan {
-        Plan::Refuse(answer) => answer,
-        Plan::Clear(source) => told(flash::erase_sector(image, source, allowance), allowance),
+    let ran = match plan {
+        Plan::Refuse(answer) => return answer,
+        Plan::Clear(source) => flash::erase_sector(image, source, allowance),
         Plan::Move(source, target, sequence) => {
-            told(
-                move_marked(&t, image, source, target, sequence, allowance),
-                allowance,
-            )
+            move_marked(&t, image, source, target, sequence, allowance)
         }
-    }
+    };
+    answer::told(answer::in_stage(Stage::Reclaim, ran), allowance)
 }

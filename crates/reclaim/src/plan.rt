@@ -2,26 +2,22 @@
 use answer::Answer;
 use page::PageState;
 use table::Page;
+use table::Sought;
 use table::Table;
 ghost use mathlib.Core.Path.{_≡_};
 ghost use Prim.Native.Nat.{_+_, _≤_, _<_};
 ghost use mathlib.Core.List.{getLast?};
 ghost use Rattle.lists.specs.Lists.{greatest};
 ghost use Rattle.table.specs.Table.{sequence, listed, freed, Sized};
-ghost use Rattle.reclaim.specs.Reclaim.{points, closed, chosen, planTo, plan};
-ghost use Rattle.reclaim.specs.Choosing.{choiceOf, chosenOf, targetOf};
+ghost use Rattle.table.specs.Sought.{soughtOf, betterAmong};
+ghost use Rattle.reclaim.specs.Reclaim.{points, candidate, closed, chosen, planTo, plan};
+ghost use Rattle.reclaim.specs.Choosing.{over, targetOf};
 
 // It is refused; the source is erased, since all its entries are Erased; or its items are moved to the target, which gets the sequence.
 pub enum Plan {
     Refuse(Answer),
     Clear(usize),
     Move(usize, usize, u32),
-}
-
-// The page that has won so far.
-pub enum Choice {
-    Chosen(Page),
-    NoPage,
 }
 
 // The free sector to take.
@@ -55,31 +51,31 @@ fn points_of(next: u64, p: Page) -> u64
 }
 
 // The better of a page and the best of those behind it: among equals the later.
-fn better_of(next: u64, p: Page, best: Choice) -> Choice
+fn better_of(next: u64, p: Page, best: Sought) -> Sought
     requires { ⌜ next ≤ 0x1_0000_0000 ⌝ }
-    ensures { λ r. ⌜ r ≡ choiceOf next p best ⌝ }
+    ensures { λ r. ⌜ r ≡ betterAmong candidate (over next) p best ⌝ }
 {
     let seen = p.seen;
     if 126 <= seen.written {
         return best;
     }
-    let Choice::Chosen(q) = best else {
-        return Choice::Chosen(p);
+    let Sought::Found(q) = best else {
+        return Sought::Found(p);
     };
     if points_of(next, p) <= points_of(next, q) {
-        Choice::Chosen(q)
+        Sought::Found(q)
     } else {
-        Choice::Chosen(p)
+        Sought::Found(p)
     }
 }
 
 // The page to reclaim. The list is gone through from its end, so that the last of equals stands.
-fn choose(t: Table, top: u32) -> Choice
+fn choose(t: Table, top: u32) -> Sought
     requires { ⌜ Sized t × (top ≡ greatest sequence (listed t)) ⌝ }
-    ensures { λ r. ⌜ r ≡ chosenOf (chosen (listed t)) ⌝ }
+    ensures { λ r. ⌜ r ≡ soughtOf (chosen (listed t)) ⌝ }
 {
     let next = long(top) + 1;
-    let mut best = Choice::NoPage;
+    let mut best = Sought::Nothing;
     let mut i = t.count;
     while 0 < i {
         i -= 1;
@@ -135,7 +131,7 @@ pub fn plan_of(t: Table) -> Plan
         return Plan::Refuse(Answer::ActiveStands);
     }
     let top = table::greatest_sequence(t);
-    let Choice::Chosen(p) = choose(t, top) else {
+    let Sought::Found(p) = choose(t, top) else {
         return Plan::Refuse(Answer::AllWritten);
     };
     let seen = p.seen;

@@ -17,7 +17,7 @@ use Rattle.answer.specs.declared.Went.{Went}
 use Rattle.answer.specs.declared.Went.the-variants.{Ended, Short}
 use Rattle.answer.specs.Staged.{Staged, tag, untag}
 use Rattle.answer.specs.Went.{Made}
-use Rattle.answer.proofs.Made.{made-tag, made-tag-short, made-then, made-stop, made-all}
+use Rattle.answer.proofs.Made.{made-tag, made-then, made-stop, made-all}
 use Rattle.table.specs.declared.Page.{Page}
 use Rattle.table.specs.Table.{pages, frees}
 use Rattle.order.specs.Order.{ordering, ordered}
@@ -37,7 +37,7 @@ module _ (x : Stage) {ss : List Step} (rest : List ℕ → List Staged) {n : ℕ
       made-then (made-tag x did) (rw (← did-all did) next)
 
   then-stop : Did ss n l m r → r ≡ Stopped → Made (tag x ss ++ rest (run ss l)) n l m (Short x)
-  then-stop d e = made-stop (rest (run ss l)) (made-tag-short x (rw e at d))
+  then-stop d e = made-stop (rest (run ss l)) (made-tag x (rw e at d))
 
 -- ---- stages 3 and 4
 
@@ -57,12 +57,6 @@ module _ (ps : List Page) {n : ℕ} {l m : List ℕ} {r : Ran} (d : Did (blobSte
 pub calm-stages : (ps : List Page) (l : List ℕ) → Calm (λ (f : List ℕ → ℕ). tot f (found ps l)) → lastStages ps l ≡ tag Duplicates (lastMarks ps l)
 unfolding lastStages duplicateStage run tag
 calm-stages ps l calm = rw (blob-idle (found ps l) calm, duplicate-idle (found ps l) calm)
-
-pub one-stop : (x : Stage) {ss : List Step} {n : ℕ} {l m : List ℕ} {r : Ran} → Did ss n l m r → r ≡ Stopped → Made (tag x ss) n l m (Short x)
-one-stop x d e = made-tag-short x (rw e at d)
-
-pub one-end : (x : Stage) {ss : List Step} {n k : ℕ} {l m : List ℕ} {r : Ran} → Did ss n l m r → r ≡ Done k → Made (tag x ss) n l m (Ended k)
-one-end x d e = made-tag x (rw e at d)
 
 -- ---- stage 1, and then 3 and 4
 

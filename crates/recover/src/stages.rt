@@ -30,10 +30,7 @@ fn repair(t: &[u32; 324], image: &mut [u8], lists: Table, room: &mut [u16], allo
     };
     let m = found::gather(t, image, lists, room);
     let r = duplicates::duplicate_stage(image, lists, room, m, left);
-    let Ran::Done(rest) = r else {
-        return Went::Short(Stage::Duplicates);
-    };
-    Went::Ended(rest)
+    answer::in_stage(Stage::Duplicates, r)
 }
 
 // Where stages 3 and 4 have nothing to repair, the last marks are all that is left of them.
@@ -42,10 +39,7 @@ fn close_full(image: &mut [u8], lists: Table, allowed: u64) -> Went
     ensures { λ r. ⌜ Made (tag Stage.Duplicates (lastMarks (listed lists) (now (image .entry)))) allowed (now (image .entry)) (now (image .exit)) r ⌝ }
 {
     let r = duplicates::make_last_marks(image, lists, allowed);
-    let Ran::Done(left) = r else {
-        return Went::Short(Stage::Duplicates);
-    };
-    Went::Ended(left)
+    answer::in_stage(Stage::Duplicates, r)
 }
 
 // The quick test spares a clean store the stages' searches. It takes its slots from the array that the stages work in afterwards.

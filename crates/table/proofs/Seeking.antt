@@ -6,7 +6,7 @@ use mathlib.Core.Option.{Option, none, some}
 use mathlib.Core.List.{List, [], _∷_}
 use Prim.Native.Nat.{ℕ}
 use native.Mathlib.Omega.{arith}
-use Rattle.lists.specs.Lists.{firstOf, better, best}
+use Rattle.lists.specs.Lists.{keep, firstOf, better, best}
 use Rattle.lists.proofs.Member.{_∈_, none≢some}
 use Rattle.page.specs.declared.state.PageState.{PageState}
 use Rattle.page.specs.declared.state.PageState.the-variants.{Blank, Corrupt, Active, Full, Freeing}
@@ -14,7 +14,7 @@ use Rattle.table.specs.declared.Page.{Page}
 use Rattle.table.specs.declared.Sought.{Sought}
 use Rattle.table.specs.declared.Sought.the-variants.{Found, Nothing}
 use Rattle.table.specs.Table.{active, freeing, activePage, freeingPage}
-use Rattle.table.specs.Sought.{soughtOf, betterOf, inState}
+use Rattle.table.specs.Sought.{soughtOf, betterOf, betterAmong, inState}
 
 module _ (p : Page → Bool) (x : Page) (xs : List Page) where
   pub first-here : p x ≡ true → firstOf p (x ∷ xs) ≡ some x
@@ -82,3 +82,13 @@ module _ (over : Page → Page → Bool) where
   pub best-more : (x : Page) (xs : List Page) → betterOf over x (soughtOf (best over xs)) ≡ soughtOf (best over (x ∷ xs))
   unfolding best
   best-more x xs = better-is x (best over xs)
+
+  pub among-more : (passes : Page → Bool) (x : Page) (xs : List Page)
+      → betterAmong passes over x (soughtOf (best over (keep passes xs))) ≡ soughtOf (best over (keep passes (x ∷ xs)))
+  unfolding betterAmong keep
+  among-more passes x xs = go (passes x)
+    where
+      go : (b : Bool) → cond b (betterOf over x (soughtOf (best over (keep passes xs)))) (soughtOf (best over (keep passes xs)))
+          ≡ soughtOf (best over (cond b (x ∷ keep passes xs) (keep passes xs)))
+      go true = best-more x (keep passes xs)
+      go false = refl

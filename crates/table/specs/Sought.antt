@@ -18,6 +18,10 @@ abbrev pub betterOf : (Page → Page → Bool) → Page → Sought → Sought
 betterOf over x Nothing = Found x
 betterOf over x (Found y) = cond (over y x) (Found y) (Found x)
 
+-- the same among the pages that pass
+unfoldable pub betterAmong : (Page → Bool) → (Page → Page → Bool) → Page → Sought → Sought
+betterAmong passes over x best = cond (passes x) (betterOf over x best) best
+
 -- a number for each state, which tells them apart
 abbrev pub codeOf : PageState → ℕ
 codeOf Blank = 0

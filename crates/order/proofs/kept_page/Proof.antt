@@ -3,11 +3,11 @@ use mathlib.Core.List.{List}
 use Rattle.lists.specs.Lists.{keep, best as bestOf}
 use Rattle.table.specs.declared.Page.{Page}
 use Rattle.table.specs.Table.{activePage, listed}
-use Rattle.table.specs.Sought.{soughtOf}
+use Rattle.table.specs.Sought.{soughtOf, betterAmong}
 use Rattle.table.proofs.Listing.{element, listed-end}
 use Rattle.order.specs.Order.{kept}
-use Rattle.order.specs.Turns.{over, keptOf}
-use Rattle.order.proofs.Turns.{kept-more}
+use Rattle.order.specs.Turns.{over}
+use Rattle.table.proofs.Seeking.{among-more}
 use mathlib.Core.Path.{_≡_, sym, ap, _∙_}
 use Prim.Native.Nat.{ℕ, _+_, _-_, _≤_}
 use native.Mathlib.Omega.{arith}
@@ -36,8 +36,8 @@ loop-again c =
     let e : i - 1 + 1 ≡ i = omega arith in (
       omega arith,
       c .better-of .ensures
-          ∙ ap (keptOf _) (l .loop .inv .1 ∙ ap (λ (k : ℕ). soughtOf (bestOf over (keep activePage (drop k (listed t))))) (sym e))
-          ∙ kept-more _ (drop (i - 1 + 1) (listed t))
+          ∙ ap (betterAmong activePage over _) (l .loop .inv .1 ∙ ap (λ (k : ℕ). soughtOf (bestOf over (keep activePage (drop k (listed t))))) (sym e))
+          ∙ among-more over activePage _ (drop (i - 1 + 1) (listed t))
           ∙ sym (ap (λ (xs : List Page). soughtOf (bestOf over (keep activePage xs))) (element (t .pages) (t .count) (l .before .pre .list) (i - 1) _ (omega arith))),
     )
 

@@ -1,8 +1,8 @@
 -- `reclaim::reclaim` meets its contract: the plan decides, and its steps are made under the allowance. Assumes nothing.
 use mathlib.Core.Path.{_≡_, refl, sym, ap₂, _∙_, subst}
 use mathlib.Core.Bool.{true, false}
+use mathlib.Core.Logic.{⊎-elim}
 use native.Mathlib.Omega.{arith}
-use borrow.Author.Needs.{needs}
 use Rattle.page.proofs.Tests.{not-true, not-false}
 use Rattle.table.specs.Table.{wholeSectors, pages, frees}
 use Rattle.reclaim.specs.Reclaim.{plan, planSteps}
@@ -54,17 +54,21 @@ returns-2 c =
     let a = c .before .before .before .before .before .before .before .before .before .before .before .before .args in
     promised-refusal (a .image .now) (a .allowance) _ (whole (c .before .before .before .before .before .before .before .before)) (planned (c .before .before .before) ∙ c .before .plan .given .1)
 
+same-length-3 : tie.Need-same-length-3
+same-length-3 c = ⊎-elim (λ x. search needs) (λ x. search needs) (c .before .before .match .came)
+
 returns-3 : tie.Need-returns-3
 unfolding planAnswer planSteps
 returns-3 c =
-    let a = c .before .before .before .before .before .before .before .before .before .before .before .before .before .before .before .before .before .args in
-    promised (a .image .now) (a .allowance) _ _ _ _ (whole (c .before .before .before .before .before .before .before .before .before .before .before .before .before)) (planned (c .before .before .before .before .before .before .before .before) ∙ c .before .before .before .before .before .before .plan2 .given .1) refl (c .before .before .before .erase-sector .ensures) (c .told .ensures)
-
-returns-4 : tie.Need-returns-4
-unfolding planAnswer
-returns-4 c =
-    let a = c .before .before .before .before .before .before .before .before .before .before .before .before .before .before .before .before .before .before .args in
-    promised (a .image .now) (a .allowance) _ _ _ _ (whole (c .before .before .before .before .before .before .before .before .before .before .before .before .before .before)) (planned (c .before .before .before .before .before .before .before .before .before) ∙ c .before .before .before .before .before .before .before .plan3 .given .1) refl (c .before .before .before .move-marked .ensures) (c .told2 .ensures)
+    let k = c .before .before in
+    let p = k .before in
+    let a = p .before .before .before .before .before .before .before .before .before .args in
+    let w = whole (p .before .before .before .before .before) in
+    let told = rw (c .before .in-stage .ensures) at (c .told .ensures) in
+    ⊎-elim
+    (λ x. promised (a .image .now) (a .allowance) _ (k .match .image) (k .match .ran) _ w (planned p ∙ x .1 .given .1) refl (rw (x .7, x .8) (x .4 .ensures)) told)
+    (λ x. promised (a .image .now) (a .allowance) _ (k .match .image) (k .match .ran) _ w (planned p ∙ x .1 .given .1) refl (rw (x .8, x .9) (x .5 .ensures)) told)
+    (k .match .came)
 
 pub reclaim-spec : {M : Type 1} → statement M
 reclaim-spec =
@@ -78,14 +82,12 @@ reclaim-spec =
     (λ c κs. search needs)
     (λ c. search needs)
     (λ c. search needs)
+    returns-2
+    (λ c. search needs)
     erase-sector-requires
-    (λ c κs. search needs)
     (λ c. search needs)
     move-marked-requires
     (λ c κs. search needs)
-    (λ c. search needs)
-    returns-2
-    (λ c. search needs)
-    returns-3
-    (λ c. search needs)
-    returns-4)
+    (λ c κs. search needs)
+    same-length-3
+    returns-3)

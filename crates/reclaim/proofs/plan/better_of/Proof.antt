@@ -3,21 +3,21 @@ use Prim.Native.Nat.{_≤_, _<_}
 use native.Mathlib.Omega.{arith}
 use borrow.Author.Tests.{lt-ltb, le-ltb, le-leb, lt-leb}
 use Rattle.reclaim.specs.Reclaim.{points}
-use Rattle.reclaim.specs.Choosing.{choiceOf}
+use Rattle.table.specs.Sought.{betterAmong}
 use borrow.Author.Needs.{needs}
 use Rattle.reclaim.proofs.plan.better_of.Statement.{statement}
 use Rattle.reclaim.proofs.plan.better_of.Tie as tie
 
 returns : tie.Need-returns
-unfolding choiceOf
+unfolding betterAmong
 returns c = rw (le-ltb _ _ (c .if1 .taken))
 
 returns-2 : tie.Need-returns-2
-unfolding choiceOf
+unfolding betterAmong
 returns-2 c = rw (lt-ltb _ _ (c .before .before .if1 .left), c .enum-told .given .1)
 
 returns-3 : tie.Need-returns-3
-unfolding choiceOf
+unfolding betterAmong
 returns-3 c =
     let a = c .before .before .before .before .before .before .before .before .before .args in
     let q = c .before .before .before .before .best .given .0 .0 in
@@ -25,7 +25,7 @@ returns-3 c =
     rw (lt-ltb _ _ (c .before .before .before .before .before .before .if1 .left), c .before .before .before .before .best .given .1, le-leb _ _ fits)
 
 returns-4 : tie.Need-returns-4
-unfolding choiceOf
+unfolding betterAmong
 returns-4 c =
     let a = c .before .before .before .before .before .before .before .before .before .args in
     let q = c .before .before .before .before .best .given .0 .0 in

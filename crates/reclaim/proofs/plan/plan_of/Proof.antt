@@ -1,28 +1,14 @@
 -- `reclaim::plan_of` meets its contract: each test that led to a return decides the definition's. Assumes nothing.
-use mathlib.Core.Path.{_≡_, refl, sym, _∙_}
+use mathlib.Core.Path.{_≡_, sym, _∙_}
 use mathlib.Core.Bool.{true, false}
-use mathlib.Core.Option.{Option, none, some}
-use Prim.Native.Nat.{ℕ}
-use native.Mathlib.Omega.{arith}
-use borrow.Author.Needs.{needs}
 use borrow.Author.Tests.{eq-eqb, ne-eqb}
 use Rattle.page.proofs.Tests.{not-true, not-false}
-use Rattle.table.specs.declared.Page.{Page}
 use Rattle.table.specs.Table.{listed}
-use Rattle.reclaim.specs.declared.plan.Choice.the-variants.{Chosen, NoPage}
+use Rattle.table.proofs.Seeking.{sought-found, sought-nothing}
 use Rattle.reclaim.specs.Reclaim.{closed, chosen, planWith, plan}
-use Rattle.reclaim.specs.Choosing.{chosenOf}
 use borrow.Author.Needs.{needs}
 use Rattle.reclaim.proofs.plan.plan_of.Statement.{statement}
 use Rattle.reclaim.proofs.plan.plan_of.Tie as tie
-
-no-page : (o : Option Page) → chosenOf o ≡ NoPage → o ≡ none
-no-page none e = refl
-no-page (some p) e = absurd (let z : _≡_ {A = ℕ} 0 1 = cc in omega arith)
-
-page-is : (o : Option Page) (p : Page) → chosenOf o ≡ Chosen p → o ≡ some p
-page-is none p e = absurd (let z : _≡_ {A = ℕ} 0 1 = cc in omega arith)
-page-is (some q) p e = cc
 
 returns : tie.Need-returns
 unfolding plan planWith
@@ -31,14 +17,14 @@ returns c = rw (← c .before .any-active .ensures, c .if1 .taken)
 returns-2 : tie.Need-returns-2
 unfolding plan planWith
 returns-2 c =
-    let e = no-page (chosen (listed (c .before .before .before .before .before .before .args .t))) (sym (c .before .before .choose .ensures) ∙ c .enum-told .given .1) in
+    let e = sought-nothing (chosen (listed (c .before .before .before .before .before .before .args .t))) (sym (c .enum-told .given .1) ∙ c .before .before .choose .ensures) in
     rw (← c .before .before .before .before .before .any-active .ensures, c .before .before .before .before .if1 .left, e)
 
 returns-3 : tie.Need-returns-3
 unfolding plan planWith
 returns-3 c =
     let p = c .before .before .before .before .p .given .0 .0 in
-    let e = page-is (chosen (listed (c .before .before .before .before .before .before .before .before .before .before .args .t))) p (sym (c .before .before .before .before .before .before .choose .ensures) ∙ c .before .before .before .before .p .given .1) in
+    let e = sought-found (chosen (listed (c .before .before .before .before .before .before .before .before .before .before .args .t))) p (sym (c .before .before .before .before .p .given .1) ∙ c .before .before .before .before .before .before .choose .ensures) in
     let q : closed (p .seen .state) ≡ false = sym (c .before .is-closed .ensures) ∙ not-true (c .before .is-closed .result) (c .if2 .taken) in
     rw (← c .before .before .before .before .before .before .before .before .before .any-active .ensures, c .before .before .before .before .before .before .before .before .if1 .left, e, q)
 
@@ -46,7 +32,7 @@ returns-4 : tie.Need-returns-4
 unfolding plan planWith
 returns-4 c =
     let p = c .before .before .before .before .before .before .before .p .given .0 .0 in
-    let e = page-is (chosen (listed (c .before .before .before .before .before .before .before .before .before .before .before .before .before .args .t))) p (sym (c .before .before .before .before .before .before .before .before .before .choose .ensures) ∙ c .before .before .before .before .before .before .before .p .given .1) in
+    let e = sought-found (chosen (listed (c .before .before .before .before .before .before .before .before .before .before .before .before .before .args .t))) p (sym (c .before .before .before .before .before .before .before .p .given .1) ∙ c .before .before .before .before .before .before .before .before .before .choose .ensures) in
     let q : closed (p .seen .state) ≡ true = sym (c .before .before .before .before .is-closed .ensures) ∙ not-false (c .before .before .before .before .is-closed .result) (c .before .before .before .if2 .left) in
     rw (← c .before .before .before .before .before .before .before .before .before .before .before .before .any-active .ensures, c .before .before .before .before .before .before .before .before .before .before .before .if1 .left, e, q, eq-eqb _ _ (c .before .if3 .taken))
 
@@ -54,7 +40,7 @@ returns-5 : tie.Need-returns-5
 unfolding plan planWith
 returns-5 c =
     let p = c .before .before .before .before .before .before .before .before .p .given .0 .0 in
-    let e = page-is (chosen (listed (c .before .before .before .before .before .before .before .before .before .before .before .before .before .before .args .t))) p (sym (c .before .before .before .before .before .before .before .before .before .before .choose .ensures) ∙ c .before .before .before .before .before .before .before .before .p .given .1) in
+    let e = sought-found (chosen (listed (c .before .before .before .before .before .before .before .before .before .before .before .before .before .before .args .t))) p (sym (c .before .before .before .before .before .before .before .before .p .given .1) ∙ c .before .before .before .before .before .before .before .before .before .before .choose .ensures) in
     let q : closed (p .seen .state) ≡ true = sym (c .before .before .before .before .before .is-closed .ensures) ∙ not-false (c .before .before .before .before .before .is-closed .result) (c .before .before .before .before .if2 .left) in
     rw (c .plan-copy .ensures, ← c .before .before .before .before .before .before .before .before .before .before .before .before .before .any-active .ensures, c .before .before .before .before .before .before .before .before .before .before .before .before .if1 .left, e, q, ne-eqb _ _ (c .before .before .if3 .left))
 

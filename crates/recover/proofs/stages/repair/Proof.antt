@@ -11,7 +11,8 @@ use Rattle.found.specs.Found.{found}
 use Rattle.found.proofs.Finding.{items-found, found-placed}
 use Rattle.found.proofs.Lying.{lies-alike}
 use Rattle.blobs.specs.Blobs.{blobSteps}
-use Rattle.recover.proofs.Sequence.{blobs-stop, blobs-on, one-stop, one-end}
+use Rattle.answer.proofs.Made.{made-tag}
+use Rattle.recover.proofs.Sequence.{blobs-stop, blobs-on}
 use borrow.Author.Needs.{needs}
 use Rattle.recover.proofs.stages.repair.Statement.{statement}
 use Rattle.recover.proofs.stages.repair.Tie as tie
@@ -48,10 +49,7 @@ duplicate-stage-requires c κs =
     (a .pre .1, rw sectors (a .pre .2), lies-alike like (listed (a .args .lists)) (a .pre .3), g .0, g .1, omega arith)
 
 returns-2 : tie.Need-returns-2
-returns-2 c = blobs-on (listed (c .before .before .before .before .before .before .before .before .before .before .before .before .before .before .before .before .before .before .before .before .before .before .before .before .before .before .before .before .before .args .lists)) (repaired (c .before .before .before .before .before .before .before .before .before .before .before .before .before .before .before .before .before .before .before)) (c .before .before .before .before .before .before .before .before .before .before .before .before .before .before .before .r .given .1) (one-stop Duplicates (c .before .before .before .before .before .before .duplicate-stage .ensures) (c .enum-told2 .given .1))
-
-returns-3 : tie.Need-returns-3
-returns-3 c = blobs-on (listed (c .before .before .before .before .before .before .before .before .before .before .before .before .before .before .before .before .before .before .before .before .before .before .before .before .before .before .before .before .before .before .args .lists)) (repaired (c .before .before .before .before .before .before .before .before .before .before .before .before .before .before .before .before .before .before .before .before)) (c .before .before .before .before .before .before .before .before .before .before .before .before .before .before .before .before .r .given .1) (one-end Duplicates (c .before .before .before .before .before .before .before .duplicate-stage .ensures) (c .before .r2 .given .1))
+returns-2 c = rw (c .in-stage .ensures) (blobs-on (listed (c .before .before .before .before .before .before .before .before .before .before .before .before .before .before .before .before .before .before .before .before .before .before .before .before .before .before .before .before .args .lists)) (repaired (c .before .before .before .before .before .before .before .before .before .before .before .before .before .before .before .before .before .before)) (c .before .before .before .before .before .before .before .before .before .before .before .before .before .before .r .given .1) (made-tag Duplicates (c .before .before .before .before .before .duplicate-stage .ensures)))
 
 pub repair-spec : {M : Type 1} → statement M
 repair-spec =
@@ -68,11 +66,7 @@ repair-spec =
     returns
     gather-requires-2
     duplicate-stage-requires
+    (λ c κs. search needs)
     (λ c. search needs)
     (λ c. search needs)
-    (λ c. search needs)
-    (λ c. search needs)
-    returns-2
-    (λ c. search needs)
-    (λ c. search needs)
-    returns-3)
+    returns-2)
