@@ -3,9 +3,9 @@ use mathlib.Core.Path.{_≡_, refl, sym, ap, _∙_}
 use mathlib.Core.Bool.{Bool, true, false, cond}
 use mathlib.Core.Option.{some}
 use mathlib.Core.List.{List, [], _∷_, _++_, map}
-use Prim.Native.Nat.{ℕ, suc, _+_, _<_, _≤_}
+use Prim.Native.Nat.{ℕ, _+_, _<_}
 use native.Mathlib.Numerals.{add-one}
-use lib.ListN.{length, take, drop, getD, set}
+use lib.ListN.{length, take, getD, set}
 use lib.Seq.{take-suc, take-suc-set}
 use Rattle.lists.specs.Lists.{keep, best}
 use Rattle.table.specs.declared.Page.{Page}
@@ -15,16 +15,16 @@ use Rattle.table.proofs.Seeking.{best-more}
 use Rattle.item.specs.Mark.{markFull}
 use Rattle.lists.proofs.Member.{_∈_}
 use Rattle.lists.proofs.Search.{keep-in, best-in}
-use Rattle.order.specs.Order.{kept, others, noEmpty, orderSteps, orderList, ordering, ordered}
-use Rattle.order.specs.Turns.{over, keptOf, closed, fullMarks, keptMark}
+use Rattle.order.specs.Order.{newerPage, kept, others, noEmpty, orderSteps, orderList, ordering, ordered}
+use Rattle.order.specs.Turns.{keptOf, closed, fullMarks, keptMark}
 
-pub kept-more : (x : Page) (xs : List Page) → keptOf x (soughtOf (best over (keep activePage xs))) ≡ soughtOf (best over (keep activePage (x ∷ xs)))
+pub kept-more : (x : Page) (xs : List Page) → keptOf x (soughtOf (best newerPage (keep activePage xs))) ≡ soughtOf (best newerPage (keep activePage (x ∷ xs)))
 unfolding keptOf keep
 kept-more x xs = go (activePage x)
   where
-    go : (b : Bool) → cond b (betterOf over x (soughtOf (best over (keep activePage xs)))) (soughtOf (best over (keep activePage xs)))
-        ≡ soughtOf (best over (cond b (x ∷ keep activePage xs) (keep activePage xs)))
-    go true = best-more over x (keep activePage xs)
+    go : (b : Bool) → cond b (betterOf newerPage x (soughtOf (best newerPage (keep activePage xs)))) (soughtOf (best newerPage (keep activePage xs)))
+        ≡ soughtOf (best newerPage (cond b (x ∷ keep activePage xs) (keep activePage xs)))
+    go true = best-more newerPage x (keep activePage xs)
     go false = refl
 
 module _ (x : Page) (xs : List Page) where
@@ -54,7 +54,7 @@ closed-more ys xs i d hy hx e =
 module _ (ps : List Page) (a : Page) (e : kept ps ≡ some a) where
   pub kept-in : a ∈ ps
   unfolding kept
-  kept-in = keep-in activePage ps a (best-in over (keep activePage ps) a e) .0
+  kept-in = keep-in activePage ps a (best-in newerPage (keep activePage ps) a e) .0
 
   pub ordering-is : ordering ps ≡ fullMarks (others a ps) ++ keptMark a
   unfolding ordering orderSteps fullMarks keptMark

@@ -35,8 +35,8 @@ use Rattle.quick.proofs.Naming.{name-chunk, name-other, number-same}
 use Rattle.quick.proofs.Numbers.{by-number, sum-to-ext, sum-to-one}
 
 -- f summed over the bytes of the items at the places
-abbrev over : List ℕ → List ℕ → (List ℕ → ℕ) → ℕ
-over l ps f = sumOf (λ (p : ℕ). f (rawAt l p)) ps
+abbrev totAt : List ℕ → List ℕ → (List ℕ → ℕ) → ℕ
+totAt l ps f = sumOf (λ (p : ℕ). f (rawAt l p)) ps
 
 part-judged : (r : List ℕ) → isPart r ≡ true → judged r ≡ true
 part-judged r e = go (leb 1 (namespaceOf r))
@@ -67,7 +67,7 @@ module _ (t l ps : List ℕ) (small : (p : ℕ) → (chunkIndexOf (rawAt l p) < 
       let group = version-group v r (small p .1) (eqb-true (versionOf r) v (both-second (isIndex r) _ e)) in
       both-is (judged r) _ (part-judged r (index-part r index)) (eq-eqb (nameOf r) (groupIn v) (name-other r (index-not-chunk r index) ∙ group))
 
-  single : (g : ℕ) → over l ps (λ (r : List ℕ). one (inGroup g r)) ≤ 1
+  single : (g : ℕ) → totAt l ps (λ (r : List ℕ). one (inGroup g r)) ≤ 1
   single g =
       let a = sum-le (λ (p : ℕ). one (inGroup g (rawAt l p))) (λ (p : ℕ). one (called g (rawAt l p))) ps (λ p m. one-le _ _ (each (rawAt l p))) in
       let b = named .once g in
@@ -78,13 +78,13 @@ module _ (t l ps : List ℕ) (small : (p : ℕ) → (chunkIndexOf (rawAt l p) < 
           let k = ranked-judged r (both-first (ranked r) _ e) in
           both-is (judged r) _ (k .1) (eq-eqb (nameOf r) g (name-other r (k .0) ∙ eqb-true (groupOf r) g (both-second (ranked r) _ e)))
 
-  lone : (v : ℕ) → over l ps (λ (r : List ℕ). one (indexOf v r)) ≤ 1
+  lone : (v : ℕ) → totAt l ps (λ (r : List ℕ). one (indexOf v r)) ≤ 1
   lone v =
       let a = sum-le (λ (p : ℕ). one (indexOf v (rawAt l p))) (λ (p : ℕ). one (called (groupIn v) (rawAt l p))) ps (λ p m. one-le _ _ (index-called v p)) in
       let b = named .once (groupIn v) in
       omega arith
 
-  not-both : (g : ℕ) → over l ps (λ (r : List ℕ). one (indexOf (versionIn g 0) r)) + over l ps (λ (r : List ℕ). one (indexOf (versionIn g 0x80) r)) ≤ 1
+  not-both : (g : ℕ) → totAt l ps (λ (r : List ℕ). one (indexOf (versionIn g 0) r)) + totAt l ps (λ (r : List ℕ). one (indexOf (versionIn g 0x80) r)) ≤ 1
   not-both g =
       let a = sum-plus (λ (p : ℕ). one (indexOf (versionIn g 0) (rawAt l p))) (λ (p : ℕ). one (indexOf (versionIn g 0x80) (rawAt l p))) ps in
       let b = sum-le (λ (p : ℕ). one (indexOf (versionIn g 0) (rawAt l p)) + one (indexOf (versionIn g 0x80) (rawAt l p))) (λ (p : ℕ). one (called g (rawAt l p))) ps
@@ -108,20 +108,20 @@ module _ (t l ps : List ℕ) (small : (p : ℕ) → (chunkIndexOf (rawAt l p) < 
       let m = some-in (eqb (told t l k)) ps (told-slot t l k (λ (p : ℕ). some-of (eqb p) ps ≡ true) (named .only) h) in
       rw (eqb-true (told t l k) (m .0) (m .2)) (m .1)
 
-  has : (v : ℕ) → 1 ≤ over l ps (λ (r : List ℕ). one (partOf v r)) → 1 ≤ over l ps (λ (r : List ℕ). one (indexOf v r))
+  has : (v : ℕ) → 1 ≤ totAt l ps (λ (r : List ℕ). one (partOf v r)) → 1 ≤ totAt l ps (λ (r : List ℕ). one (indexOf v r))
   has v h =
       let x = pos-in (λ (p : ℕ). partOf v (rawAt l p)) ps h in
       let r = rawAt l (x .0) in
       go (x .0) (x .1) (isChunk r) refl (both-first (isPart r) _ (x .2)) (both-second (isPart r) _ (x .2))
     where
-      counted : (p : ℕ) → p ∈ ps → indexOf v (rawAt l p) ≡ true → 1 ≤ over l ps (λ (r : List ℕ). one (indexOf v r))
+      counted : (p : ℕ) → p ∈ ps → indexOf v (rawAt l p) ≡ true → 1 ≤ totAt l ps (λ (r : List ℕ). one (indexOf v r))
       counted p m e =
           let g = sum-ge (λ (q : ℕ). one (indexOf v (rawAt l q))) ps p m in
           let z = one-true (indexOf v (rawAt l p)) e in
           omega arith
 
       go : (p : ℕ) → p ∈ ps → (b : Bool) → isChunk (rawAt l p) ≡ b → (b || isIndex (rawAt l p)) ≡ true → eqb (versionOf (rawAt l p)) v ≡ true
-          → 1 ≤ over l ps (λ (r : List ℕ). one (indexOf v r))
+          → 1 ≤ totAt l ps (λ (r : List ℕ). one (indexOf v r))
       go p m true q f w =
           let c = fits p m .chunk q in
           counted _ (led-in (groupOf (rawAt l p)) (c .some)) (rw (eqb-true (versionOf (rawAt l p)) v w) at (c .index))
@@ -136,7 +136,7 @@ module _ (t l ps : List ℕ) (small : (p : ℕ) → (chunkIndexOf (rawAt l p) < 
         let e = index-called v m index in
         ap (told t l) (sym (eqb-true (nameOf r) (groupIn v) (both-second (judged r) _ e))) ∙ of-each (Led t l) ps (named .led) m here (both-first (judged r) _ e) .1
 
-    of-index : (f : List ℕ → ℕ) → over l ps (λ (r : List ℕ). cond (indexOf v r) (f r) 0) ≡ f (rawAt l m)
+    of-index : (f : List ℕ → ℕ) → totAt l ps (λ (r : List ℕ). cond (indexOf v r) (f r) 0) ≡ f (rawAt l m)
     of-index f =
         sum-only (λ (p : ℕ). called (groupIn v) (rawAt l p)) (λ (p : ℕ). cond (indexOf v (rawAt l p)) (f (rawAt l p)) 0) ps m here (index-called v m index) (named .once (groupIn v))
         (λ p k e. other p e (indexOf v (rawAt l p)) refl)
@@ -191,7 +191,7 @@ module _ (t l ps : List ℕ) (small : (p : ℕ) → (chunkIndexOf (rawAt l p) < 
           other p g e false x b y = refl
 
       -- all of its chunks are those that the table leads to
-      of-chunks : over l ps (λ (r : List ℕ). cond (chunkOf v r) (f r) 0) ≡ sumTo (λ j. f (toldRaw t l (chunkName v j))) (indexCount (rawAt l m))
+      of-chunks : totAt l ps (λ (r : List ℕ). cond (chunkOf v r) (f r) 0) ≡ sumTo (λ j. f (toldRaw t l (chunkName v j))) (indexCount (rawAt l m))
       of-chunks =
           let c = indexCount (rawAt l m) in
           sum-ext counts (λ (p : ℕ). cond (ltb (chunkNumber (rawAt l p)) c) (counts p) 0) ps (λ p n. all p n (chunkOf v (rawAt l p)) refl)
@@ -211,20 +211,20 @@ module _ (t l ps : List ℕ) (small : (p : ℕ) → (chunkIndexOf (rawAt l p) < 
     one-cond true = refl
     one-cond false = refl
 
-    count-here : over l ps (λ (r : List ℕ). cond (indexOf v r) (indexCount r) 0) ≡ over l ps (λ (r : List ℕ). one (chunkOf v r))
+    count-here : totAt l ps (λ (r : List ℕ). cond (indexOf v r) (indexCount r) 0) ≡ totAt l ps (λ (r : List ℕ). one (chunkOf v r))
     count-here =
         of-index indexCount
         ∙ sym (sum-ext (λ (p : ℕ). one (chunkOf v (rawAt l p))) (λ (p : ℕ). cond (chunkOf v (rawAt l p)) 1 0) ps (λ p n. one-cond (chunkOf v (rawAt l p))) ∙ of-chunks (λ r. 1) ∙ sum-to-one (indexCount (rawAt l m)))
 
-    size-here : over l ps (λ (r : List ℕ). cond (indexOf v r) (indexSize r) 0) ≡ over l ps (sizeIn v)
+    size-here : totAt l ps (λ (r : List ℕ). cond (indexOf v r) (indexSize r) 0) ≡ totAt l ps (sizeIn v)
     unfolding sizeIn
     size-here =
         let r = rawAt l m in
         let version = eqb-true (versionOf r) v (both-second (isIndex r) _ index) in
         of-index indexSize ∙ sym (of-chunks chunkSize ∙ ap (λ (w : ℕ). sumTo (λ j. chunkSize (toldRaw t l (chunkName w j))) (indexCount r)) (sym version) ∙ fits m here .index (both-first (isIndex r) _ index) .size)
 
-  calm-over : Calm (over l ps)
-  calm-over =
+  calm-at : Calm (totAt l ps)
+  calm-at =
       record {
         single = single;
         lone = lone;
@@ -266,4 +266,4 @@ module _ (t l ps : List ℕ) (small : (j : ℕ) → getD l j 0 < 256) (named : N
 
   pub calm-items : Calm (λ (f : List ℕ → ℕ). tot f (itemsAt l ps))
   calm-items =
-      calm-same (λ (f : List ℕ → ℕ). tot f (itemsAt l ps)) (over l ps) (λ f. sum-map (λ (x : Found). f (x .raw)) (itemAt l) ps) (calm-over t l ps small-item named all-fit)
+      calm-same (λ (f : List ℕ → ℕ). tot f (itemsAt l ps)) (totAt l ps) (λ f. sum-map (λ (x : Found). f (x .raw)) (itemAt l) ps) (calm-at t l ps small-item named all-fit)
