@@ -23,9 +23,9 @@ use Rattle.lists.proofs.Sums.{greatest-ge, greatest-lt, sum-ge}
 use Rattle.lists.proofs.Search.{best-in, best-some, best-top, every-of, first-none, first-only, last-append, some-in}
 use Rattle.lists.proofs.Out.{in-out, out-in, out-other, sum-out}
 use Rattle.lists.proofs.Member.{_∈_, true≢false}
+use Rattle.lists.proofs.Range.{sumTo-pair}
 use Rattle.table.specs.declared.Page.{Page}
 use Rattle.table.specs.Table.{activePage, freeingPage, inSector, itemsIn, pageAt, sectorsOf, sequence}
-use Rattle.table.proofs.Sectors.{sumTo-pair}
 use Rattle.table.proofs.Records.{record-sequence}
 use Rattle.finish.specs.Finish.{afresh, after, copyOf, holdsAll, nameOf, newest, newestHolds, nextSequence, noOlderPage, round, roundWith, sameBytes}
 use Rattle.finishing.specs.Finishing.{freeings}

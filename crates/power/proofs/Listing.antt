@@ -11,14 +11,14 @@ use Rattle.entry.specs.States.{one}
 use Rattle.page.specs.State.{isFree, stateOf}
 use Rattle.page.specs.Walk.{Laid}
 use Rattle.flash.specs.Step.{sector}
-use Rattle.lists.specs.Lists.{sumOf}
+use Rattle.lists.specs.Lists.{sumOf, sumTo}
 use Rattle.lists.proofs.Member.{_∈_}
 use Rattle.lists.proofs.Maps.{flatMap-in, map-in}
 use Rattle.lists.proofs.Sums.{sum-ext, sum-ge}
+use Rattle.lists.proofs.Range.{sumTo-ext}
 use Rattle.table.specs.declared.Page.{Page}
 use Rattle.table.specs.Table.{frees, inSector, itemsIn, pages, sectorsOf}
 use Rattle.table.proofs.Pages.{length-frees, once, pages-in, sum-pages}
-use Rattle.table.proofs.Sectors.{sumTo, sumTo-ext}
 use Rattle.found.specs.Found.{Found, found, foundOn}
 use Rattle.duplicates.proofs.Apart.{found-once}
 use Rattle.duplicates.proofs.Once.{Once}

@@ -15,11 +15,11 @@ use Rattle.page.specs.State.{isFree, sequenceOf, stateOf}
 use Rattle.page.specs.Walk.{Laid, itemsOf}
 use Rattle.flash.specs.Step.{sector}
 use Rattle.flash.proofs.Erased.{length-sector}
-use Rattle.lists.specs.Lists.{sumOf}
+use Rattle.lists.specs.Lists.{sumOf, sumTo}
 use Rattle.lists.proofs.Maps.{in-map, map-in, sum-map}
 use Rattle.lists.proofs.Member.{true≢false}
+use Rattle.lists.proofs.Range.{sumTo-ext, sumTo-one-le, sumTo-two, sumTo-two-le}
 use Rattle.table.specs.Table.{active, freeing, frees, sectorsOf}
-use Rattle.table.proofs.Sectors.{sumTo, sumTo-ext, sumTo-one-le, sumTo-two, sumTo-two-le}
 use Rattle.table.proofs.Pages.{length-frees}
 use Rattle.power.specs.Demand3.{total}
 use Rattle.power.proofs.State.{AllFree, Good, Partial, Settled, Side, Source, State, Target, done, full, junk, partly, target-apart}

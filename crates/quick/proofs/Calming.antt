@@ -12,11 +12,12 @@ use Rattle.word.proofs.Bytes.{part-byte}
 use Rattle.entry.specs.States.{one}
 use Rattle.entry.specs.Fields.{chunkIndexOf, chunkSize, indexCount, indexSize, keyNumber, keyOf, namespaceOf, spanOf}
 use Rattle.page.proofs.Tests.{both-first, both-is, both-second}
-use Rattle.lists.specs.Lists.{some-of, sumOf}
+use Rattle.lists.specs.Lists.{some-of, sumOf, sumTo}
 use Rattle.lists.proofs.Member.{_∈_, true≢false}
 use Rattle.lists.proofs.Search.{some-in}
 use Rattle.lists.proofs.Sums.{sum-ext, sum-ge, sum-le, sum-plus}
 use Rattle.lists.proofs.Maps.{sum-map}
+use Rattle.lists.proofs.Range.{sumTo-ext}
 use Rattle.found.specs.Found.{Found, chunkOf, groupOf, indexOf, isChunk, isIndex, isPart, versionOf}
 use Rattle.found.specs.Places.{itemAt, itemsAt}
 use Rattle.blobs.specs.Blobs.{sizeIn, versionIn}
@@ -24,7 +25,7 @@ use Rattle.duplicates.specs.Duplicates.{ranked}
 use Rattle.quick.specs.Calm.{Calm, inGroup, partOf, tot}
 use Rattle.quick.specs.Names.{chunkName, chunkNumber, judged, nameOf}
 use Rattle.quick.specs.Slots.{EachSlot, rawAt, told}
-use Rattle.quick.specs.Fits.{Fits, Led, Named, called, sumTo, toldRaw}
+use Rattle.quick.specs.Fits.{Fits, Led, Named, called, toldRaw}
 use Rattle.quick.proofs.Counts.{one-le, one-true, pos-in, sum-only}
 use Rattle.found.proofs.Each.{of-each}
 use Rattle.found.proofs.Keys.{key-lt}
@@ -32,7 +33,7 @@ use Rattle.quick.proofs.Versions.{groupIn, index-not-chunk, index-part,
 use Rattle.quick.proofs.Idle.{calm-same}
 use Rattle.quick.proofs.Looking.{told-name, told-slot}
 use Rattle.quick.proofs.Naming.{name-chunk, name-other, number-same}
-use Rattle.quick.proofs.Numbers.{by-number, sum-to-ext, sum-to-one}
+use Rattle.quick.proofs.Numbers.{by-number, sum-to-one}
 
 -- f summed over the bytes of the items at the places
 abbrev totAt : List ℕ → List ℕ → (List ℕ → ℕ) → ℕ
@@ -196,7 +197,7 @@ module _ (t l ps : List ℕ) (small : (p : ℕ) → (chunkIndexOf (rawAt l p) < 
           let c = indexCount (rawAt l m) in
           sum-ext counts (λ (p : ℕ). cond (ltb (chunkNumber (rawAt l p)) c) (counts p) 0) ps (λ p n. all p n (chunkOf v (rawAt l p)) refl)
           ∙ sym (by-number counts (λ (p : ℕ). chunkNumber (rawAt l p)) ps c)
-          ∙ sum-to-ext (λ j. sumOf (numbered j) ps) (λ j. f (toldRaw t l (chunkName v j))) c one-number
+          ∙ sumTo-ext (λ j. sumOf (numbered j) ps) (λ j. f (toldRaw t l (chunkName v j))) c one-number
         where
           none : (b : Bool) → cond {A = ℕ} b 0 0 ≡ 0
           none true = refl

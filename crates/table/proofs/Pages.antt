@@ -12,13 +12,13 @@ use Rattle.entry.specs.States.{countState, empty, one}
 use Rattle.page.specs.declared.state.PageState.{PageState}
 use Rattle.page.specs.State.{isFree, stateOf}
 use Rattle.flash.specs.Step.{sector}
-use Rattle.lists.specs.Lists.{sumOf}
+use Rattle.lists.specs.Lists.{sumOf, sumTo}
 use Rattle.lists.proofs.Sums.{sum-append}
 use Rattle.lists.proofs.Member.{_∈_, in-append, in-left, in-right}
+use Rattle.lists.proofs.Range.{sumTo-only}
 use Rattle.table.specs.declared.Page.{Page}
 use Rattle.table.specs.Table.{frees, freesTo, inSector, pageAt, pages, pagesTo, sectorsOf}
 use Rattle.table.proofs.Scanning.{record-state}
-use Rattle.table.proofs.Sectors.{sumTo, sumTo-only}
 use Rattle.table.proofs.Records.{record-empty, record-erased}
 
 module _ (l : List ℕ) where
