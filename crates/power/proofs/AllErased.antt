@@ -1,6 +1,6 @@
 -- A page of which all entries are Erased has no item. Assumes nothing.
 use mathlib.Core.Path.{_∙_, _≡_, ap, refl}
-use mathlib.Core.Bool.{Bool, cond, false, true}
+use mathlib.Core.Bool.{Bool, false, true}
 use mathlib.Core.List.{List, []}
 use Prim.Native.Nat.{_+_, _<_, _≤_, suc, zero, ℕ}
 use native.Mathlib.Omega.{arith}
@@ -8,7 +8,8 @@ use lib.Dec.{eqb}
 use borrow.Author.Tests.{eqb-false, eqb-true}
 use Rattle.entry.specs.States.{countOf, countState, one, stateAt}
 use Rattle.page.specs.State.{isFree, stateOf}
-use Rattle.page.specs.Walk.{Laid, isItem, itemsOf, walk}
+use Rattle.page.specs.Walk.{isItem, itemsOf, walk}
+use Rattle.lists.proofs.Member.{cond-same}
 use Rattle.power.proofs.Items.{item-is}
 
 count-bound : (f : ℕ → ℕ) (v m : ℕ) → countOf f v m ≤ m
@@ -46,8 +47,4 @@ walk-none T (suc m) i h = rw (not-item (isItem T i) refl) (walk-none T m (i + 1)
 -- all 126 are Erased
 pub items-none : (T : List ℕ) → countState T 0 ≡ 126 → itemsOf T ≡ []
 unfolding itemsOf
-items-none T e = rw (walk-none T 126 0 (count-every (stateAt T) 0 126 e)) (go (isFree (stateOf T)))
-  where
-    go : (b : Bool) → cond {A = List Laid} b [] [] ≡ []
-    go true = refl
-    go false = refl
+items-none T e = rw (walk-none T 126 0 (count-every (stateAt T) 0 126 e)) (cond-same (isFree (stateOf T)))

@@ -13,7 +13,7 @@ use Rattle.entry.specs.States.{one}
 use Rattle.entry.specs.Fields.{chunkIndexOf, chunkSize, indexCount, indexSize, keyNumber, keyOf, namespaceOf, spanOf}
 use Rattle.page.proofs.Tests.{both-first, both-is, both-second}
 use Rattle.lists.specs.Lists.{some-of, sumOf, sumTo}
-use Rattle.lists.proofs.Member.{_∈_, true≢false}
+use Rattle.lists.proofs.Member.{_∈_, cond-same, true≢false}
 use Rattle.lists.proofs.Search.{some-in}
 use Rattle.lists.proofs.Sums.{sum-ext, sum-ge, sum-le, sum-plus}
 use Rattle.lists.proofs.Maps.{sum-map}
@@ -199,14 +199,10 @@ module _ (t l ps : List ℕ) (small : (p : ℕ) → (chunkIndexOf (rawAt l p) < 
           ∙ sym (by-number counts (λ (p : ℕ). chunkNumber (rawAt l p)) ps c)
           ∙ sumTo-ext (λ j. sumOf (numbered j) ps) (λ j. f (toldRaw t l (chunkName v j))) c one-number
         where
-          none : (b : Bool) → cond {A = ℕ} b 0 0 ≡ 0
-          none true = refl
-          none false = refl
-
           all : (p : ℕ) → p ∈ ps → (b : Bool) → chunkOf v (rawAt l p) ≡ b
               → cond b (f (rawAt l p)) 0 ≡ cond (ltb (chunkNumber (rawAt l p)) (indexCount (rawAt l m))) (cond b (f (rawAt l p)) 0) 0
           all p h true e = rw (lt-ltb _ _ (chunk-here p h e .0))
-          all p h false e = sym (none (ltb (chunkNumber (rawAt l p)) (indexCount (rawAt l m))))
+          all p h false e = sym (cond-same (ltb (chunkNumber (rawAt l p)) (indexCount (rawAt l m))))
 
     one-cond : (b : Bool) → one b ≡ cond b 1 0
     one-cond true = refl
