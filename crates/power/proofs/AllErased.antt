@@ -7,24 +7,16 @@ use native.Mathlib.Omega.{arith}
 use lib.Dec.{eqb}
 use borrow.Author.Tests.{eqb-false, eqb-true}
 use Rattle.entry.specs.States.{countOf, countState, one, stateAt}
+use Rattle.entry.proofs.Counting.{count-le}
 use Rattle.page.specs.State.{isFree, stateOf}
 use Rattle.page.specs.Walk.{isItem, itemsOf, walk}
 use Rattle.lists.proofs.Member.{cond-same}
 use Rattle.power.proofs.Items.{item-is}
 
-count-bound : (f : ℕ → ℕ) (v m : ℕ) → countOf f v m ≤ m
-unfolding countOf
-count-bound f v zero = omega arith
-count-bound f v (suc m) = go (eqb (f m) v) (count-bound f v m)
-  where
-    go : (b : Bool) → countOf f v m ≤ m → countOf f v m + one b ≤ suc m
-    go true k = omega arith
-    go false k = omega arith
-
 count-every : (f : ℕ → ℕ) (v m : ℕ) → countOf f v m ≡ m → (i : ℕ) → i < m → f i ≡ v
 unfolding countOf
 count-every f v zero e i k = absurd (omega arith)
-count-every f v (suc m) e i k = go (eqb (f m) v) refl e (count-bound f v m) (count-every f v m)
+count-every f v (suc m) e i k = go (eqb (f m) v) refl e (count-le v f m) (count-every f v m)
   where
     at : f m ≡ v → (countOf f v m ≡ m → (i : ℕ) → i < m → f i ≡ v) → countOf f v m ≡ m → (b : Bool) → eqb i m ≡ b → f i ≡ v
     at q ih g true z = ap f (eqb-true i m z) ∙ q
