@@ -18,6 +18,7 @@ use Rattle.lists.proofs.Search.{some-in}
 use Rattle.lists.proofs.Sums.{sum-ext, sum-ge, sum-le, sum-plus}
 use Rattle.lists.proofs.Maps.{sum-map}
 use Rattle.lists.proofs.Range.{sumTo-ext}
+use Rattle.table.proofs.Places.{one-cond}
 use Rattle.found.specs.Found.{Found, chunkOf, groupOf, indexOf, isChunk, isIndex, isPart, versionOf}
 use Rattle.found.specs.Places.{itemAt, itemsAt}
 use Rattle.blobs.specs.Blobs.{sizeIn, versionIn}
@@ -203,10 +204,6 @@ module _ (t l ps : List ℕ) (small : (p : ℕ) → (chunkIndexOf (rawAt l p) < 
               → cond b (f (rawAt l p)) 0 ≡ cond (ltb (chunkNumber (rawAt l p)) (indexCount (rawAt l m))) (cond b (f (rawAt l p)) 0) 0
           all p h true e = rw (lt-ltb _ _ (chunk-here p h e .0))
           all p h false e = sym (cond-same (ltb (chunkNumber (rawAt l p)) (indexCount (rawAt l m))))
-
-    one-cond : (b : Bool) → one b ≡ cond b 1 0
-    one-cond true = refl
-    one-cond false = refl
 
     count-here : totAt l ps (λ (r : List ℕ). cond (indexOf v r) (indexCount r) 0) ≡ totAt l ps (λ (r : List ℕ). one (chunkOf v r))
     count-here =
