@@ -30,7 +30,8 @@ use Rattle.quick.specs.Fits.{Fits, Led, Named, called, toldRaw}
 use Rattle.quick.proofs.Counts.{one-le, one-true, pos-in, sum-only}
 use Rattle.found.proofs.Each.{of-each}
 use Rattle.found.proofs.Keys.{key-lt}
-use Rattle.quick.proofs.Versions.{groupIn, index-not-chunk, index-part, pow-pos, split-in, version-group, versionIn-ne}
+use Rattle.duplicates.proofs.Versions.{groupIn, version-group}
+use Rattle.quick.proofs.Versions.{index-not-chunk, index-part, pow-pos, split-in, versionIn-ne}
 use Rattle.quick.proofs.Idle.{calm-same}
 use Rattle.quick.proofs.Looking.{told-name, told-slot}
 use Rattle.quick.proofs.Naming.{name-chunk, name-other, number-same}
