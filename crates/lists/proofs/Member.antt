@@ -25,6 +25,11 @@ true≢false {b} p q = let z : _≡_ {A = ℕ} 0 1 = cc in omega arith
 pub none≢some : {A : Type 0} {o : Option A} {x : A} → o ≡ none → o ≡ some x → ⊥
 none≢some {o} {x} p q = let z : _≡_ {A = ℕ} 0 1 = cc in omega arith
 
+-- a test that cannot have held
+pub refuted : (b : Bool) → (b ≡ true → ⊥) → b ≡ false
+refuted true h = absurd (h refl)
+refuted false h = refl
+
 module _ {A : Type 0} where
   -- a list with a member is not the empty one
   pub nil≢ : {x : A} {xs : List A} → x ∷ xs ≡ [] → ⊥

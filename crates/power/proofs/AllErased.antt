@@ -9,9 +9,9 @@ use borrow.Author.Tests.{eqb-false, eqb-true}
 use Rattle.entry.specs.States.{countOf, countState, one, stateAt}
 use Rattle.entry.proofs.Counting.{count-le}
 use Rattle.page.specs.State.{isFree, stateOf}
-use Rattle.page.specs.Walk.{isItem, itemsOf, walk}
+use Rattle.page.specs.Walk.{itemsOf, walk}
 use Rattle.lists.proofs.Member.{cond-same}
-use Rattle.power.proofs.Items.{item-is}
+use Rattle.power.proofs.Items.{no-item}
 
 count-every : (f : ℕ → ℕ) (v m : ℕ) → countOf f v m ≡ m → (i : ℕ) → i < m → f i ≡ v
 unfolding countOf
@@ -30,11 +30,7 @@ count-every f v (suc m) e i k = go (eqb (f m) v) refl e (count-le v f m) (count-
 walk-none : (T : List ℕ) (m i : ℕ) → ((e : ℕ) → e < 126 → stateAt T e ≡ 0) → walk T m i ≡ []
 unfolding walk
 walk-none T zero i h = refl
-walk-none T (suc m) i h = rw (not-item (isItem T i) refl) (walk-none T m (i + 1) h)
-  where
-    not-item : (b : Bool) → isItem T i ≡ b → isItem T i ≡ false
-    not-item false q = q
-    not-item true q = let r = item-is T i q in let a = r .some in let b = r .ends in let c = r .is-written in let d = h i (omega arith) in absurd (omega arith)
+walk-none T (suc m) i h = rw (no-item T i (λ k w. let e = h i k in omega arith)) (walk-none T m (i + 1) h)
 
 -- all 126 are Erased
 pub items-none : (T : List ℕ) → countState T 0 ≡ 126 → itemsOf T ≡ []

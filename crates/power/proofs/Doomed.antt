@@ -13,13 +13,12 @@ use Rattle.entry.specs.Fields.{indexCount, indexSize, spanOf}
 use Rattle.page.proofs.Tests.{both-first, both-is, both-second}
 use Rattle.flash.specs.Step.{Step}
 use Rattle.lists.specs.Lists.{ascending, best, better, keep, sumOf}
-use Rattle.lists.proofs.Member.{_∈_, in-append, true≢false}
+use Rattle.lists.proofs.Member.{_∈_, in-append, refuted, true≢false}
 use Rattle.lists.proofs.Search.{in-keep, keep-in}
 use Rattle.lists.proofs.Sums.{sum-append, sum-ext, sum-keep, sum-one, sum-plus}
 use Rattle.lists.proofs.Maps.{flatMap-append, flatMap-ext, flatMap-none}
 use Rattle.found.specs.Found.{Found, chunkOf, chunks, eraseAll, groupOf, indexOf, isChunk, isIndex, isPart, newer, versionOf}
 use Rattle.blobs.specs.Blobs.{blobSteps, counting, dropVersion, indices, judge, judgeWith, older, sizeIn, sound}
-use Rattle.duplicates.proofs.Once.{refuted}
 use Rattle.quick.specs.Calm.{inGroup, partOf, tot}
 use Rattle.quick.proofs.Idle.{older-idle}
 use Rattle.quick.proofs.Counts.{length-keep}

@@ -11,7 +11,7 @@ use Rattle.word.specs.Number.{part}
 use Rattle.word.proofs.Bytes.{part-byte}
 use Rattle.entry.specs.States.{one}
 use Rattle.entry.specs.Fields.{chunkIndexOf, chunkSize, indexCount, indexSize, keyNumber, keyOf, namespaceOf, spanOf}
-use Rattle.page.proofs.Tests.{both-first, both-is, both-second}
+use Rattle.page.proofs.Tests.{both-first, both-is, both-second, either-second, not-true}
 use Rattle.lists.specs.Lists.{some-of, sumOf, sumTo}
 use Rattle.lists.proofs.Member.{_∈_, cond-same, true≢false}
 use Rattle.lists.proofs.Search.{some-in}
@@ -42,22 +42,14 @@ abbrev totAt : List ℕ → List ℕ → (List ℕ → ℕ) → ℕ
 totAt l ps f = sumOf (λ (p : ℕ). f (rawAt l p)) ps
 
 part-judged : (r : List ℕ) → isPart r ≡ true → judged r ≡ true
-part-judged r e = go (leb 1 (namespaceOf r))
-  where
-    go : (b : Bool) → b || isPart r ≡ true
-    go true = refl
-    go false = e
+part-judged r e = either-second (leb 1 (namespaceOf r)) _ e
 
 chunk-part : (r : List ℕ) → isChunk r ≡ true → isPart r ≡ true
 chunk-part r e = rw e
 
 -- an item that stage 4 judges is judged, and no chunk
 ranked-judged : (r : List ℕ) → ranked r ≡ true → (isChunk r ≡ false) × (judged r ≡ true)
-ranked-judged r e = (go (isChunk r) (both-first (not (isChunk r)) _ e), rw (both-second (not (isChunk r)) _ e))
-  where
-    go : (b : Bool) → not b ≡ true → b ≡ false
-    go true q = absurd (true≢false refl (sym q))
-    go false q = refl
+ranked-judged r e = (not-true (isChunk r) (both-first (not (isChunk r)) _ e), rw (both-second (not (isChunk r)) _ e))
 
 module _ (t l ps : List ℕ) (small : (p : ℕ) → (chunkIndexOf (rawAt l p) < 256) × (keyNumber (keyOf (rawAt l p)) < 2 ^ 128))
     (named : Named t l ps) (fits : (p : ℕ) → p ∈ ps → Fits t l (rawAt l p)) where

@@ -1,6 +1,6 @@
 -- The versions of a group are of it, and are two; and an index is a part of a blob and no chunk. Assumes nothing.
 use mathlib.Core.Path.{_∙_, _≡_, ap, refl, sym}
-use mathlib.Core.Bool.{Bool, _||_, false, true}
+use mathlib.Core.Bool.{false, true}
 use mathlib.Core.List.{List}
 use Prim.Native.Nat.{_%_, _*_, _+_, _/_, _<_, _^_, _≤_, ℕ}
 use native.Mathlib.Nat.{div-add-mod', mod-lt}
@@ -10,6 +10,7 @@ use lib.Dec.{lit<}
 use Rattle.entry.specs.declared.kinds.Kind.{Kind}
 use Rattle.entry.specs.declared.kinds.Kind.the-variants.{Blob, Chunk, Index, Signed, Text, Unknown, Unsigned}
 use Rattle.entry.specs.Fields.{kindIn}
+use Rattle.page.proofs.Tests.{either-second}
 use Rattle.lists.proofs.Member.{true≢false}
 use Rattle.found.specs.Found.{chunkKind, indexKind, isChunk, isIndex, isPart}
 use Rattle.duplicates.proofs.Versions.{split-group}
@@ -28,11 +29,7 @@ versionIn-ne b g z e =
     omega arith
 
 pub index-part : (r : List ℕ) → isIndex r ≡ true → isPart r ≡ true
-index-part r e = rw e (go (isChunk r))
-  where
-    go : (b : Bool) → b || true ≡ true
-    go true = refl
-    go false = refl
+index-part r e = either-second (isChunk r) _ e
 
 pub index-not-chunk : (r : List ℕ) → isIndex r ≡ true → isChunk r ≡ false
 index-not-chunk r e = go (kindIn r) e
