@@ -1,7 +1,7 @@
 -- What the premises of demand 3 and of its general form give: every page is Full, and the items are tidy. Assumes nothing.
 use mathlib.Core.Path.{_≡_, ap, refl}
 use mathlib.Core.Logic.{⊎-elim}
-use mathlib.Core.Bool.{Bool, _&&_, _||_, false, true}
+use mathlib.Core.Bool.{_&&_, _||_, false, true}
 use mathlib.Core.List.{List}
 use Prim.Native.Nat.{_*_, _+_, _<_, ℕ}
 use native.Mathlib.Omega.{arith}
@@ -32,7 +32,8 @@ use Rattle.found.proofs.Keys.{key-lt, part-small}
 use Rattle.power.specs.Demand3.{Premises}
 use Rattle.power.proofs.State.{Good}
 use Rattle.power.proofs.Calm.{Tidy}
-use Rattle.power.proofs.Steps.{free-neither}
+use Rattle.power.proofs.Quiet.{Still}
+use Rattle.power.proofs.Steps.{still-else}
 use Rattle.power.proofs.Items.{walk-in}
 use Rattle.power.proofs.Totals.{total-found}
 
@@ -51,15 +52,11 @@ module _ (L : List ℕ) (S : Premises L) where
   no-freeing p m = neither-second (activePage p) _ (neither p m)
 
   -- the same of a sector
-  pub state-of : (u : ℕ) → u < n → (active (stateOf (sector u L)) ≡ false) × (freeing (stateOf (sector u L)) ≡ false)
-  state-of u h = go (isFree (stateOf (sector u L))) refl
-    where
-      go : (b : Bool) → isFree (stateOf (sector u L)) ≡ b → (active (stateOf (sector u L)) ≡ false) × (freeing (stateOf (sector u L)) ≡ false)
-      go true e = free-neither (stateOf (sector u L)) e
-      go false e =
-          let m = in-pages L u h e in
-          let r = record-state (sector u L) in
-          (rw r at (no-active (pageAt u L) m), rw r at (no-freeing (pageAt u L) m))
+  pub state-of : (u : ℕ) → u < n → Still (stateOf (sector u L))
+  state-of u h = still-else (stateOf (sector u L)) (λ e.
+      let m = in-pages L u h e in
+      let r = record-state (sector u L) in
+      (rw r at (no-active (pageAt u L) m), rw r at (no-freeing (pageAt u L) m)))
 
   is-full : (u : ℕ) → u < n → isFree (stateOf (sector u L)) ≡ false → stateOf (sector u L) ≡ Full
   is-full u h f = go (stateOf (sector u L)) f (state-of u h .0) (state-of u h .1)
