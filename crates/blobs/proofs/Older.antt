@@ -5,8 +5,7 @@ use mathlib.Core.Option.{Option, none, some}
 use mathlib.Core.List.{List, []}
 use Prim.Native.Nat.{ℕ}
 use lib.Dec.{eqb}
-use Rattle.flash.specs.Step.{Step}
-use Rattle.lists.proofs.Member.{none≢some}
+use Rattle.lists.proofs.Member.{cond-same, none≢some}
 use Rattle.found.specs.Found.{Found, versionOf}
 use Rattle.blobs.specs.Blobs.{counting, sound, dropVersion, versionIn, soundOne, bothSound, dropCounting, olderWith, older}
 use Rattle.blobs.specs.Search.{newest, soundIndex}
@@ -53,11 +52,7 @@ module _ (g : ℕ) (fs : List Found) where
 
   pub older-none : newest v w fs ≡ none → older fs g ≡ []
   unfolding older newest olderWith
-  older-none e = rw e (go (bothSound fs v w))
-    where
-      go : (b : Bool) → cond {A = List Step} b [] [] ≡ []
-      go true = refl
-      go false = refl
+  older-none e = rw e (cond-same (bothSound fs v w))
 
   pub older-some : (i j k : Found) (t : Bool) → soundIndex v fs ≡ some i → soundIndex w fs ≡ some j → newest v w fs ≡ some k → eqb (versionOf (k .raw)) v ≡ t
       → older fs g ≡ cond t (dropVersion w j fs) (dropVersion v i fs)

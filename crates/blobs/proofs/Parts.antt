@@ -1,29 +1,22 @@
 -- Where there is no part of a blob there is no version and no group, and so no step. Assumes nothing.
-use mathlib.Core.Path.{_≡_, refl, ap₂}
-use mathlib.Core.Bool.{Bool, true, false, _||_}
+use mathlib.Core.Path.{_≡_, ap₂}
+use mathlib.Core.Bool.{false}
 use mathlib.Core.List.{List, [], _++_, map, flatMap}
 use Prim.Native.Nat.{ℕ}
+use Rattle.page.proofs.Tests.{neither-second}
 use Rattle.flash.specs.Step.{Step}
 use Rattle.lists.specs.Lists.{some-of, ascendFrom, ascending}
-use Rattle.lists.proofs.Member.{_∈_, true≢false}
+use Rattle.lists.proofs.Member.{_∈_, refuted, true≢false}
 use Rattle.lists.proofs.Search.{keep-none, some-is}
 use Rattle.found.specs.Found.{Found, isChunk, isIndex, isPart, versionOf, groupOf}
 use Rattle.blobs.specs.Blobs.{judge, older, blobSteps}
 
 module _ (fs : List Found) (none-here : some-of (λ (x : Found). isPart (x .raw)) fs ≡ false) where
   no-part : (x : Found) → x ∈ fs → isPart (x .raw) ≡ false
-  no-part x m = go (isPart (x .raw)) refl
-    where
-      go : (b : Bool) → isPart (x .raw) ≡ b → b ≡ false
-      go true e = absurd (true≢false (some-is (λ (x : Found). isPart (x .raw)) fs x m e) none-here)
-      go false e = refl
+  no-part x m = refuted (isPart (x .raw)) (λ e. true≢false (some-is (λ (x : Found). isPart (x .raw)) fs x m e) none-here)
 
   no-index : (x : Found) → x ∈ fs → isIndex (x .raw) ≡ false
-  no-index x m = go (isChunk (x .raw)) (isIndex (x .raw)) (no-part x m)
-    where
-      go : (a b : Bool) → (a || b) ≡ false → b ≡ false
-      go true b e = absurd (true≢false refl e)
-      go false b e = e
+  no-index x m = neither-second (isChunk (x .raw)) (isIndex (x .raw)) (no-part x m)
 
   nothing : (f : ℕ → List Step) (number : Found → ℕ) (xs : List Found) → xs ≡ [] → flatMap f (ascending (map number xs)) ≡ []
   unfolding ascending ascendFrom flatMap

@@ -13,6 +13,7 @@ use Rattle.entry.specs.Fields.{entryCrc, startOf}
 use Rattle.page.specs.declared.state.PageState.the-variants.{Full}
 use Rattle.page.specs.Walk.{rightHeader, isItem, onFrom}
 use Rattle.flash.specs.Step.{and8, put, andWord}
+use Rattle.item.specs.Initialise.{bytes4}
 use Rattle.lists.specs.Lists.{keep, better, best, greatest}
 use Rattle.table.specs.declared.Page.{Page}
 use Rattle.reclaim.specs.Reclaim.{points, chosen}
@@ -22,9 +23,6 @@ abbrev pub statesOf : ℕ → List ℕ
 statesOf b = replicate 32 0xFF ++ (b ∷ replicate 31 0xFF)
 
 -- a right entry of span n: namespace 1, type 0x01, no chunk index, key and data zero
-abbrev pub bytes4 : ℕ → List ℕ
-bytes4 c = c % 256 ∷ c / 256 % 256 ∷ c / 65536 % 256 ∷ c / 16777216 ∷ []
-
 abbrev pub entryOf : ℕ → List ℕ
 entryOf n = 1 ∷ 0x01 ∷ n ∷ 0xFF ∷ (bytes4 (crcOf (1 ∷ 0x01 ∷ n ∷ 0xFF ∷ replicate 24 0)) ++ replicate 24 0)
 
@@ -87,5 +85,5 @@ table =
 
 -- every row holds
 pub cases : T (every table)
-unfolding le crcBit crcBits crcByte crcFrom crcOf stateAt kindOf entryCrc rightHeader isItem and8 put andWord keep better best greatest points chosen
+unfolding le crcBit crcBits crcByte crcFrom crcOf stateAt kindOf entryCrc rightHeader isItem and8 put andWord bytes4 keep better best greatest points chosen
 cases = tt

@@ -11,7 +11,7 @@ use borrow.Author.Tests.{not-true, eqb-true, eq-eqb}
 use Rattle.entry.specs.Fields.{namespaceOf, keyOf, keyNumber}
 use Rattle.page.proofs.Tests.{both-first, both-second}
 use Rattle.lists.specs.Lists.{keep, some-of, sortBy}
-use Rattle.lists.proofs.Member.{_∈_, true≢false, none≢some, in-left, in-right}
+use Rattle.lists.proofs.Member.{_∈_, refuted, true≢false, none≢some, in-left, in-right}
 use Rattle.lists.proofs.Search.{keep-in, keep-all, keep-none, keep-append, some-is, some-in, some-none}
 use Rattle.lists.proofs.Sums.{sum-keep-le}
 use Rattle.lists.proofs.Maps.{in-flatMap, flatMap-in, flatMap-append}
@@ -20,7 +20,7 @@ use Rattle.lists.proofs.Sorting.{sort-in, sum-sort}
 use Rattle.found.specs.Found.{Found, isChunk, isIndex, startIn, versionOf, groupOf, chunkOf, chunks}
 use Rattle.duplicates.specs.Duplicates.{ranked, members, olderThan, withChunks, outdated, samePlace, onceEach}
 use Rattle.duplicates.specs.Turns.{indexFrom, takesChunks, oldOne, oldOnce, oldWith, oldOf}
-use Rattle.duplicates.proofs.Once.{refuted, fresh, fresh-none, fresh-end, fresh-item, once-alone, fresh-append, once-append, Once, once-fewer, same-self, once-other, once-only, once-same}
+use Rattle.duplicates.proofs.Once.{fresh, fresh-none, fresh-end, fresh-item, once-alone, fresh-append, once-append, Once, once-fewer, same-self, once-other, once-only, once-same}
 use Rattle.duplicates.proofs.Versions.{version-tells, version-of}
 
 -- the items stand at different places, and their keys are of bytes

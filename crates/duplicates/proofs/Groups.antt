@@ -7,14 +7,14 @@ use Prim.Native.Nat.{ℕ, zero, suc, _<_}
 use native.Mathlib.Omega.{arith}
 use Rattle.flash.specs.Step.{Step}
 use Rattle.lists.specs.Lists.{some-of, leastFrom, ascendTo, ascendFrom, ascending}
-use Rattle.lists.proofs.Member.{_∈_}
+use Rattle.lists.proofs.Member.{_∈_, refuted}
 use Rattle.lists.proofs.Search.{keep-all, some-none}
 use Rattle.lists.proofs.Maps.{flatMap-in, flatMap-ext}
 use Rattle.lists.proofs.Ascending.{ascend-from}
 use Rattle.found.specs.Found.{Found, groupOf, eraseAll}
 use Rattle.duplicates.specs.Duplicates.{outdated, samePlace, onceEach, groups, duplicateSteps}
 use Rattle.duplicates.specs.Turns.{groupSteps}
-use Rattle.duplicates.proofs.Once.{refuted, fresh, once-append, once-in, once-only}
+use Rattle.duplicates.proofs.Once.{fresh, once-append, once-in, once-only}
 use Rattle.duplicates.proofs.Taking.{erase-append}
 use Rattle.duplicates.proofs.Grouping.{Apart, group-turns, outdated-of}
 

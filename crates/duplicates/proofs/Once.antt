@@ -4,22 +4,17 @@ use mathlib.Core.Path.{_≡_, refl, sym, ap, _∙_}
 use mathlib.Core.Logic.{inl, inr}
 use mathlib.Core.Bool.{Bool, true, false, cond, not}
 use mathlib.Core.List.{List, [], _∷_, _++_}
-use Prim.Native.Nat.{ℕ, _+_, _≤_}
+use Prim.Native.Nat.{ℕ, _≤_}
 use native.Mathlib.Omega.{arith}
 use borrow.Author.Tests.{eq-eqb}
 use Rattle.entry.specs.States.{one}
 use Rattle.lists.specs.Lists.{keep, some-of, sumOf}
-use Rattle.lists.proofs.Member.{_∈_}
+use Rattle.lists.proofs.Member.{_∈_, refuted}
 use Rattle.lists.proofs.Search.{keep-in, keep-all, keep-append, keep-both}
 use Rattle.lists.proofs.Sums.{sum-ge, sum-append}
 use Rattle.table.proofs.Places.{only}
 use Rattle.found.specs.Found.{Found}
 use Rattle.duplicates.specs.Duplicates.{samePlace, onceEach}
-
--- a test that cannot have held
-pub refuted : (b : Bool) → (b ≡ true → ⊥) → b ≡ false
-refuted true h = absurd (h refl)
-refuted false h = refl
 
 -- those that stand where none of the seen ones stands
 abbrev pub fresh : List Found → List Found → List Found

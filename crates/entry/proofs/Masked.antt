@@ -13,9 +13,9 @@ use Rattle.entry.specs.Ones.{masked}
 use Rattle.entry.proofs.Counting.{count-ext, count-first}
 
 -- n pairs g below b
-unfoldable pub over : ℕ → ℕ → ℕ → ℕ
-over g b zero = b
-over g b (suc n) = over g b n * 4 + g
+unfoldable pub pairsBelow : ℕ → ℕ → ℕ → ℕ
+pairsBelow g b zero = b
+pairsBelow g b (suc n) = pairsBelow g b n * 4 + g
 
 -- pair j of a word
 abbrev pub pairAt : ℕ → ℕ → ℕ
@@ -68,17 +68,17 @@ next : (w j : ℕ) → pairAt (w / 4) j ≡ pairAt w (suc j)
 next w j = ap (λ (x : ℕ). x % 4) (div-div-eq-div-mul w 4 (4 ^ j) ∙ ap (λ (x : ℕ). w / x) (mul-comm 4 (4 ^ j) ∙ sym (pow-suc 4 j)))
 
 module _ (g : ℕ) (hg : g < 4) (b : ℕ) where
-  pub masked-count : (n w : ℕ) → masked w (over g b n) (over 1 0 n) ≡ countOf (pairAt w) (3 - g) n
-  unfolding masked over countOf ones
+  pub masked-count : (n w : ℕ) → masked w (pairsBelow g b n) (pairsBelow 1 0 n) ≡ countOf (pairAt w) (3 - g) n
+  unfolding masked pairsBelow countOf ones
   masked-count zero w = ap ones (and-zero-r (bitAnd (bitXor w b) (bitXor w b / 2)))
   masked-count (suc n) w =
-      let p : ℕ = over g b n in
+      let p : ℕ = pairsBelow g b n in
       let x : ℕ = bitXor w (p * 4 + g) in
       let up : x / 4 ≡ bitXor (w / 4) p = xor-shr w (p * 4 + g) 2 ∙ ap (bitXor (w / 4)) (omega arith) in
       let low : x % 4 ≡ bitXor (w % 4) g = xor-mod w (p * 4 + g) 2 ∙ ap (bitXor (w % 4)) (omega arith) in
       let first : w % 4 ≡ pairAt w 0 = omega arith in
-      step x (over 1 0 n)
-      ∙ ap₂ (λ (y d : ℕ). ones (bitAnd (bitAnd y (y / 2)) (over 1 0 n)) + bitAnd (d % 2) (d / 2)) up low
+      step x (pairsBelow 1 0 n)
+      ∙ ap₂ (λ (y d : ℕ). ones (bitAnd (bitAnd y (y / 2)) (pairsBelow 1 0 n)) + bitAnd (d % 2) (d / 2)) up low
       ∙ ap₂ (λ (y d : ℕ). y + d) (masked-count n (w / 4) ∙ count-ext (3 - g) (pairAt (w / 4)) (λ j. pairAt w (suc j)) n (λ j l. next w j))
       (pair (w % 4) g (omega arith) hg ∙ ap (λ (u : ℕ). one (eqb u (3 - g))) first)
       ∙ sym (count-first (3 - g) (pairAt w) n)

@@ -10,7 +10,7 @@ use Rattle.word.specs.Number.{le}
 use Rattle.word.proofs.Bytes.{byte}
 use Rattle.entry.specs.States.{stateAt, countOf}
 use Rattle.entry.proofs.Counting.{count-ext, count-add}
-use Rattle.entry.proofs.Masked.{pairAt, over, masked-count}
+use Rattle.entry.proofs.Masked.{pairAt, pairsBelow, masked-count}
 use Rattle.entry.specs.Ones.{masked}
 
 -- a pair of a byte's, by its place
@@ -71,11 +71,11 @@ module _ (s : List ℕ) (small : (i : ℕ) → getD s i 0 < 256) where
 
   -- the ones of the four masked words are the entries of a state, counted one by one
   pub total : (g : ℕ) → g < 4 → (t a b c d : ℕ) → a ≡ le s 32 8 → b ≡ le s 40 8 → c ≡ le s 48 8 → d ≡ le s 56 8
-      → t ≡ masked a (over g 0 32) (over 1 0 32) + masked b (over g 0 32) (over 1 0 32) + masked c (over g 0 32) (over 1 0 32) + masked d (over g 0 32) (over 1 0 30)
+      → t ≡ masked a (pairsBelow g 0 32) (pairsBelow 1 0 32) + masked b (pairsBelow g 0 32) (pairsBelow 1 0 32) + masked c (pairsBelow g 0 32) (pairsBelow 1 0 32) + masked d (pairsBelow g 0 32) (pairsBelow 1 0 30)
       → t ≡ countOf (stateAt s) (3 - g) 126
-  unfolding over
+  unfolding pairsBelow
   total g hg t a b c d ea eb ec ed e =
-      let m : (w x : ℕ) → w ≡ x → masked w (over g 0 32) (over 1 0 32) ≡ countOf (pairAt x) (3 - g) 32 =
+      let m : (w x : ℕ) → w ≡ x → masked w (pairsBelow g 0 32) (pairsBelow 1 0 32) ≡ countOf (pairAt x) (3 - g) 32 =
       λ w x q. masked-count g hg 0 32 w ∙ ap (λ (y : ℕ). countOf (pairAt y) (3 - g) 32) q in
       omega (
         arith,
@@ -83,6 +83,6 @@ module _ (s : List ℕ) (small : (i : ℕ) → getD s i 0 < 256) where
         m a (le s 32 8) ea,
         m b (le s 40 8) eb,
         m c (le s 48 8) ec,
-        masked-count g hg (over g 0 2) 30 d ∙ ap (λ (y : ℕ). countOf (pairAt y) (3 - g) 30) ed,
+        masked-count g hg (pairsBelow g 0 2) 30 d ∙ ap (λ (y : ℕ). countOf (pairAt y) (3 - g) 30) ed,
         four-words (3 - g),
       )

@@ -2,9 +2,9 @@
 use mathlib.Core.Bool.{Bool, true, false, cond, _&&_}
 use mathlib.Core.Option.{Option, none, some}
 use mathlib.Core.List.{List, [], _∷_, _++_, getLast?, dropLast}
-use Prim.Native.Nat.{ℕ, zero, suc, max}
+use Prim.Native.Nat.{ℕ, suc, max}
 use lib.Dec.{eqb, leb, ltb}
-use lib.ListN.{getD, take}
+use lib.ListN.{take}
 use Rattle.word.specs.Number.{part}
 use Rattle.entry.specs.Fields.{namespaceOf, chunkIndexOf}
 use Rattle.page.specs.Walk.{Laid}
@@ -12,7 +12,7 @@ use Rattle.flash.specs.Step.{Step, erase, run}
 use Rattle.relocate.specs.Move.{moving}
 use Rattle.lists.specs.Lists.{every, some-of, firstOf, best, greatest, takeOut}
 use Rattle.table.specs.declared.Page.{Page}
-use Rattle.table.specs.Table.{pageAt, itemsIn, sequence, activePage, freeingPage, inSector, asFull}
+use Rattle.table.specs.Table.{pageAt, itemsIn, sequence, activePage, inSector, asFull}
 
 -- two lists of bytes are the same
 unfoldable pub sameBytes : List ℕ → List ℕ → Bool
@@ -32,9 +32,13 @@ nameOf r = namespaceOf r ∷ chunkIndexOf r ∷ part r 8 16
 unfoldable pub holdsAll : List Laid → List Laid → Bool
 holdsAll ys xs = every (λ (x : Laid). some-of (λ (y : Laid). sameBytes (nameOf (x .raw)) (nameOf (y .raw))) ys) xs
 
+-- y, which stands later, goes before x: "greatest sequence, last among equals"
+abbrev pub noOlderPage : Page → Page → Bool
+noOlderPage y x = leb (sequence x) (sequence y)
+
 -- "the newest page (greatest sequence, last among equals)"
 unfoldable pub newest : List Page → Option Page
-newest ps = best (λ (y x : Page). leb (sequence x) (sequence y)) ps
+newest ps = best noOlderPage ps
 
 -- ".. is newer than the source and holds .."
 unfoldable pub newestHolds : Page → List ℕ → Option Page → Bool

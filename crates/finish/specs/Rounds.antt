@@ -1,19 +1,12 @@
 -- What a round's function answers, and what the functions of a round need. Assumes nothing.
 use mathlib.Core.Path.{_≡_}
-use mathlib.Core.Bool.{Bool}
 use mathlib.Core.List.{List}
 use Prim.Native.Nat.{ℕ}
-use lib.Dec.{leb}
 use Rattle.flash.specs.declared.Ran.the-variants.{Done}
 use Rattle.flash.specs.Did.{Did}
-use Rattle.table.specs.declared.Page.{Page}
-use Rattle.table.specs.Table.{sequence, Holds}
+use Rattle.table.specs.Table.{Holds}
 use Rattle.finish.specs.declared.rounds.Rounded.{Rounded}
 use Rattle.finish.specs.Finish.{Round}
-
--- "greatest sequence, last among equals": y, which stands later, goes before x
-abbrev pub over : Page → Page → Bool
-over y x = leb (sequence x) (sequence y)
 
 -- the steps of the round w, of which n are allowed, were made on the image l, which left m; where these were all, the table holds the lists that it leaves
 pub record Makes (w : Round) (n : ℕ) (l m : List ℕ) (r : Rounded) : Type 0 where

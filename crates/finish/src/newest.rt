@@ -11,12 +11,11 @@ ghost use Rattle.crc.specs.Table.{crcTable};
 ghost use Rattle.table.specs.Table.{sectorsOf, listed, freed, Sized};
 ghost use Rattle.table.specs.Sought.{soughtOf, betterOf};
 ghost use Rattle.table.specs.Placed.{Placed};
-ghost use Rattle.finish.specs.Finish.{newest, newestHolds};
-ghost use Rattle.finish.specs.Rounds.{over};
+ghost use Rattle.finish.specs.Finish.{noOlderPage, newest, newestHolds};
 
 // The newer of a page and the newest of those behind it: among equals the later.
 fn newer_of(p: Page, best: Sought) -> Sought
-    ensures { λ r. ⌜ r ≡ betterOf over p best ⌝ }
+    ensures { λ r. ⌜ r ≡ betterOf noOlderPage p best ⌝ }
 {
     let Sought::Found(q) = best else {
         return Sought::Found(p);

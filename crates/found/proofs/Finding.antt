@@ -2,13 +2,10 @@
 use mathlib.Core.Path.{_≡_, refl, sym, ap, ap₂, _∙_}
 use mathlib.Core.Bool.{Bool, true, false, cond}
 use mathlib.Core.List.{List, [], _∷_, _++_, append-assoc, map, map-map, map-append, flatMap}
-use Prim.Native.Nat.{ℕ, zero, suc, _+_, _-_, _*_, _/_, _%_, _<_, _≤_}
-use native.Mathlib.Nat.{add-assoc}
+use Prim.Native.Nat.{ℕ, zero, suc, _+_, _-_, _*_, _/_, _%_, _≤_}
 use native.Mathlib.Omega.{arith}
-use lib.ListN.{getD, length-take, length-drop}
-use lib.Seq.{ext-getD}
 use Rattle.word.specs.Number.{part}
-use Rattle.word.proofs.Bytes.{part-byte}
+use Rattle.word.proofs.Bytes.{part-part}
 use Rattle.entry.specs.Fields.{entryAt, spanOf}
 use Rattle.flash.specs.Step.{sector}
 use Rattle.page.specs.Walk.{Laid, isItem, laidAt, onFrom, walk}
@@ -18,13 +15,6 @@ use Rattle.table.specs.Table.{itemsIn, sequence}
 use Rattle.found.specs.Found.{Found, found, foundOn}
 use Rattle.found.specs.Places.{placeOf, itemAt, itemsAt, Each, Lies, Placed}
 use Rattle.found.proofs.Each.{each-append}
-
-part-part : (l : List ℕ) (a n k m : ℕ) → k + m ≤ n → part (part l a n) k m ≡ part l (a + k) m
-part-part l a n k m h =
-    ext-getD 0 _ _ (simp (length-take, length-drop) (omega arith)) (λ i g.
-    let b : i < m = omega (arith, simp (length-take, length-drop) at g) in
-    part-byte (part l a n) k m i b ∙ part-byte l a n (k + i) (omega arith)
-    ∙ ap (λ (x : ℕ). getD l x 0) (sym (add-assoc a k i)) ∙ sym (part-byte l (a + k) m i b))
 
 -- an item of the page, with its page
 abbrev pub foundAs : Page → Laid → Found

@@ -12,36 +12,22 @@ use mir.Syntax.{Ty, Lifetime}
 use mir.Raw.{raw as rawTy}
 use mir.Val.{Val}
 use base.Logic.{ent, sep, ex}
-use base.Fml.{Lft, GName, Fml, fsep, fat, fdead, flent}
+use base.Fml.{Lft, GName, Fml, fat, fdead, flent}
 use prog.Wp.{Heap}
 use ghost.Atoms.{Atoms, sem}
-use types.Kit.{Given, ‵, _⊛_, some, later, _$_, _∵_, !, qed, by, drop, use1, use2, use3, rewrite, split, pick, show, frame, fsplit, fjoin, fpick, fpack, feqL, feqI, await, updating, now as at-once, done}
+use types.Kit.{Given, ‵, _⊛_, some, later, _$_, _∵_, !, qed, by, drop, use1, use2, use3, rewrite, split, pick, show, frame, fsplit, fjoin, feqL, feqI, await, updating, now as at-once, done}
 use types.SemTy.{cells, Arr}
 use types.Share.{arr-parts}
 use denote.RattleType.{RattleType}
-use denote.Laws.{Is, Tells, shows}
-use denote.Memory.{mem, shares, partAt, partOf, cellRaw, rawAll}
+use denote.Laws.{Is, Tells}
+use denote.Memory.{mem, shares, partAt, rawAll}
 use denote.Array.{Array}
 use denote.ArrayMemory.{Single, array-apart, array-whole}
 use denote.Index.{row, whole-out, whole-in}
 use denote.Lend.{Held, lends-slice, slice-back}
 use denote.Slice.{sliceVal, MutSlice, Room, finally}
-use denote.Struct.Steps.{spelt}
 use borrow.Table.Elements.{at, cut-app, join-app, same-len}
-
--- one value of R in a local of the MIR type τ
-module _ {M : Type 1} (𝓤 : URA M) (H : Heap 𝓤) (A : Atoms 𝓤) (W : Given 𝓤 H A) (R : RattleType) (τ : Ty) (same : rawAll (R .mir) ≡ rawTy τ ∷ []) (b o : ℕ) where
-  local-in : (h : R .Denot) (v : Val) → ent 𝓤 (sep 𝓤 (H .at fullShare τ b o v) (sem 𝓤 H A (R .own h (v ∷ [])))) (sem 𝓤 H A (partAt R fullShare h b o))
-  unfolding partOf
-  local-in h v =
-      qed W (‵ (fat fullShare τ b o v) ∷ ‵ (R .own h (v ∷ [])) ∷ []) ∵ use1 W (‵ (fat fullShare (rawTy τ) b o v)) (W .laws .at-raw fullShare τ b o v) $
-      rewrite ! 0 (λ (ρs : List Ty). ‵ (cellRaw fullShare ρs (v ∷ []) b o)) (sym same) refl $ fjoin ! $ fpack ! (List Val) (λ vs. fsep (cellRaw fullShare (rawAll (R .mir)) vs b o) (R .own h vs)) (v ∷ []) $ done !
-
-  local-out : (val : R .Denot → Val) → Tells R (Is R) (λ h. val h ∷ []) → (h : R .Denot) → ent 𝓤 (sem 𝓤 H A (partAt R fullShare h b o)) (sep 𝓤 (H .at fullShare τ b o (val h)) (sem 𝓤 H A (R .own h (val h ∷ []))))
-  unfolding partOf
-  local-out val tl h =
-      qed W (‵ (partAt R fullShare h b o) ∷ []) ∵ fpick ! (λ vs. fsplit ! $ spelt ! R (Is R) (shows 𝓤 H A R) (λ k. val k ∷ []) tl fullShare h vs b o $
-      rewrite ! 0 (λ (ρs : List Ty). ‵ (cellRaw fullShare ρs (val h ∷ []) b o)) same refl $ use1 W (‵ (fat fullShare τ b o (val h))) (W .laws .raw-at fullShare τ b o (val h)) $ done !)
+use Rattle.word.proofs.Local.{local-in, local-out}
 
 abbrev pub Behind : (R : RattleType) → ℕ → List (R .Denot) → ℕ → ℕ → Fml
 Behind R k ys b o = cells (mem R) (drop-list k ys) b (at o (mem R .size) (length (take k ys)))

@@ -5,3 +5,4 @@ pub mod Maps
 pub mod Out
 pub mod Ascending
 pub mod Sorting
+pub mod Range

@@ -1,7 +1,7 @@
 -- Membership, and what it is to be a member of lists put together. Assumes nothing.
 use mathlib.Core.Path.{_≡_, refl}
 use mathlib.Core.Logic.{_⊎_, inl, inr, ⊎-elim}
-use mathlib.Core.Bool.{Bool, true, false}
+use mathlib.Core.Bool.{Bool, true, false, cond}
 use mathlib.Core.Option.{Option, none, some}
 use mathlib.Core.List.{List, [], _∷_, _++_}
 use Prim.Native.Nat.{ℕ}
@@ -13,12 +13,22 @@ _∈_ x [] = ⊥
 _∈_ x (y ∷ ys) = (x ≡ y) ⊎ (x ∈ ys)
 
 infix 50 _∈_
+-- a test that chooses nothing
+pub cond-same : {A : Type 0} (b : Bool) {x : A} → cond b x x ≡ x
+cond-same true = refl
+cond-same false = refl
+
 -- no test has both answers, and no search finds both something and nothing
 pub true≢false : {b : Bool} → b ≡ true → b ≡ false → ⊥
 true≢false {b} p q = let z : _≡_ {A = ℕ} 0 1 = cc in omega arith
 
 pub none≢some : {A : Type 0} {o : Option A} {x : A} → o ≡ none → o ≡ some x → ⊥
 none≢some {o} {x} p q = let z : _≡_ {A = ℕ} 0 1 = cc in omega arith
+
+-- a test that cannot have held
+pub refuted : (b : Bool) → (b ≡ true → ⊥) → b ≡ false
+refuted true h = absurd (h refl)
+refuted false h = refl
 
 module _ {A : Type 0} where
   -- a list with a member is not the empty one

@@ -7,7 +7,7 @@ use mathlib.Core.List.{List, [], _∷_, getLast?, dropLast}
 use Prim.Native.Nat.{ℕ, _+_, _≤_}
 use native.Mathlib.Omega.{arith}
 use Rattle.lists.specs.Lists.{sumOf, replace, outWith, takeOut}
-use Rattle.lists.proofs.Member.{_∈_, true≢false, none≢some}
+use Rattle.lists.proofs.Member.{_∈_, refuted, true≢false, none≢some}
 use Rattle.lists.proofs.Search.{last-some, last-in}
 use Rattle.lists.proofs.Sums.{sum-ge}
 
@@ -123,13 +123,9 @@ module _ {A : Type 0} where
     -- after it none passes, where one passed
     pub out-other : (xs : List A) (x : A) → x ∈ xs → p x ≡ true → sumOf (λ (y : A). cond (p y) 1 0) xs ≤ 1 → ((y : A) → y ∈ xs → p y ≡ true → y ≡ x) → (y : A)
         → y ∈ takeOut p xs → p y ≡ false
-    out-other xs x m e s h y n = go (p y) refl
-      where
-        go : (b : Bool) → p y ≡ b → p y ≡ false
-        go false q = q
-        go true q =
-            let t = sum-out (λ (w : A). cond (p w) 1 0) xs x m e h in
-            let g = sum-ge (λ (w : A). cond (p w) 1 0) (takeOut p xs) y n in
-            let a : _≡_ {A = ℕ} (cond (p y) 1 0) 1 = rw q in
-            let b : _≡_ {A = ℕ} (cond (p x) 1 0) 1 = rw e in
-            absurd (omega arith)
+    out-other xs x m e s h y n = refuted (p y) (λ q.
+        let t = sum-out (λ (w : A). cond (p w) 1 0) xs x m e h in
+        let g = sum-ge (λ (w : A). cond (p w) 1 0) (takeOut p xs) y n in
+        let a : _≡_ {A = ℕ} (cond (p y) 1 0) 1 = rw q in
+        let b : _≡_ {A = ℕ} (cond (p x) 1 0) 1 = rw e in
+        omega arith)

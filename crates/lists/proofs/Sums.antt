@@ -1,5 +1,5 @@
 -- Sums and the greatest, by what each member adds. Assumes nothing.
-use mathlib.Core.Path.{_≡_, refl, ap}
+use mathlib.Core.Path.{_≡_, refl, sym, ap, _∙_}
 use mathlib.Core.Logic.{inl, inr}
 use mathlib.Core.Bool.{Bool, true, false, cond}
 use mathlib.Core.List.{List, [], _∷_, _++_}
@@ -82,3 +82,7 @@ module _ {A : Type 0} where
   pub sum-one : (f : A → ℕ) (xs : List A) (x : A) → xs ≡ x ∷ [] → sumOf f xs ≡ f x
   unfolding sumOf
   sum-one f xs x e = rw (e, add-zero)
+
+  -- where one is kept
+  pub sum-kept-one : (p : A → Bool) (f : A → ℕ) (xs : List A) (x : A) → keep p xs ≡ x ∷ [] → sumOf (λ (y : A). cond (p y) (f y) 0) xs ≡ f x
+  sum-kept-one p f xs x e = sym (sum-keep p f xs) ∙ sum-one f (keep p xs) x e

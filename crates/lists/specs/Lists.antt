@@ -2,7 +2,7 @@
 -- Assumes nothing.
 use mathlib.Core.Bool.{Bool, true, false, cond}
 use mathlib.Core.Option.{Option, none, some}
-use mathlib.Core.List.{List, [], _∷_, _++_, getLast?, dropLast}
+use mathlib.Core.List.{List, [], _∷_, getLast?, dropLast}
 use Prim.Native.Nat.{ℕ, zero, suc, _+_, max}
 use lib.ListN.{length}
 use lib.Dec.{leb, ltb}
@@ -66,6 +66,11 @@ module _ {A : Type 0} where
   unfoldable pub sortBy : (A → A → Bool) → List A → List A
   sortBy before [] = []
   sortBy before (x ∷ xs) = insertBy before x (sortBy before xs)
+
+-- f 0 + .. + f (n - 1)
+unfoldable pub sumTo : (ℕ → ℕ) → ℕ → ℕ
+sumTo f zero = 0
+sumTo f (suc n) = sumTo f n + f n
 
 -- the least number of the list from v on
 abbrev pub lesser : ℕ → ℕ → Option ℕ → Option ℕ

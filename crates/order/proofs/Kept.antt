@@ -1,19 +1,19 @@
 -- The list that stage 1 leaves has the pages of the list that it found, each where it stood in the image; its marks change state words alone. Assumes nothing.
-use mathlib.Core.Path.{_≡_, refl, sym, ap, _∙_}
+use mathlib.Core.Path.{_≡_, refl, ap, _∙_}
 use mathlib.Core.Logic.{_⊎_, inl, inr, ⊎-elim}
 use mathlib.Core.Bool.{Bool, true, false, cond}
 use mathlib.Core.Option.{Option, none, some}
-use mathlib.Core.List.{List, [], _∷_, _++_, map}
+use mathlib.Core.List.{List, [], _∷_, map}
 use Prim.Native.Nat.{ℕ, suc, _+_, _*_, _%_, _<_, _≤_}
 use native.Mathlib.Omega.{arith}
-use lib.ListN.{length, getD}
+use lib.ListN.{getD}
 use Rattle.entry.specs.States.{one}
 use Rattle.flash.specs.Step.{Step, run, apply}
 use Rattle.flash.proofs.Order.{le-or-gt}
 use Rattle.flash.proofs.Laws.{run-append}
 use Rattle.flash.proofs.Bytes.{word-other}
 use Rattle.item.specs.Mark.{markFull}
-use Rattle.lists.specs.Lists.{keep, best, greatest, sumOf}
+use Rattle.lists.specs.Lists.{keep, greatest, sumOf}
 use Rattle.lists.proofs.Member.{_∈_, in-append}
 use Rattle.lists.proofs.Search.{keep-in, best-in}
 use Rattle.lists.proofs.Sums.{sum-append, sum-ext, sum-one, greatest-ge, greatest-lt}
@@ -23,8 +23,8 @@ use Rattle.table.specs.declared.Page.{Page}
 use Rattle.table.specs.Table.{sequence, activePage, inSector, asFull}
 use Rattle.table.specs.Placed.{timesIn, Placed}
 use Rattle.table.proofs.Places.{out-times, length-sum}
-use Rattle.order.specs.Order.{kept, others, noEmpty, ordering, ordered, orderSteps, orderList}
-use Rattle.order.specs.Turns.{over, closed, fullMarks, keptMark}
+use Rattle.order.specs.Order.{newerPage, kept, others, noEmpty, ordering, ordered, orderSteps, orderList}
+use Rattle.order.specs.Turns.{closed, fullMarks, keptMark}
 use Rattle.order.proofs.Turns.{kept-in, ordering-is, ordered-is}
 
 nothing-kept : (ps : List Page) → kept ps ≡ none → (ordering ps ≡ []) × (ordered ps ≡ ps)
@@ -33,7 +33,7 @@ nothing-kept ps e = (rw e, rw e)
 
 kept-active : (ps : List Page) (a : Page) → kept ps ≡ some a → activePage a ≡ true
 unfolding kept
-kept-active ps a e = keep-in activePage ps a (best-in over (keep activePage ps) a e) .1
+kept-active ps a e = keep-in activePage ps a (best-in newerPage (keep activePage ps) a e) .1
 
 -- ---- sums over the list
 

@@ -3,9 +3,9 @@ use mathlib.Core.Path.{_≡_, refl, sym, ap, _∙_}
 use mathlib.Core.Bool.{true, false, cond}
 use mathlib.Core.Option.{some}
 use mathlib.Core.List.{List, [], _∷_, _++_, map}
-use Prim.Native.Nat.{ℕ, suc, _+_, _<_, _≤_}
+use Prim.Native.Nat.{ℕ, _+_, _<_}
 use native.Mathlib.Numerals.{add-one}
-use lib.ListN.{length, take, drop, getD, set}
+use lib.ListN.{length, take, getD, set}
 use lib.Seq.{take-suc, take-suc-set}
 use Rattle.lists.specs.Lists.{keep}
 use Rattle.table.specs.declared.Page.{Page}
@@ -13,8 +13,8 @@ use Rattle.table.specs.Table.{activePage, asFull}
 use Rattle.item.specs.Mark.{markFull}
 use Rattle.lists.proofs.Member.{_∈_}
 use Rattle.lists.proofs.Search.{keep-in, best-in}
-use Rattle.order.specs.Order.{kept, others, noEmpty, orderSteps, orderList, ordering, ordered}
-use Rattle.order.specs.Turns.{over, closed, fullMarks, keptMark}
+use Rattle.order.specs.Order.{newerPage, kept, others, noEmpty, orderSteps, orderList, ordering, ordered}
+use Rattle.order.specs.Turns.{closed, fullMarks, keptMark}
 
 module _ (x : Page) (xs : List Page) where
   pub marks-active : activePage x ≡ true → fullMarks (x ∷ xs) ≡ markFull (x .sector) ∷ fullMarks xs
@@ -43,7 +43,7 @@ closed-more ys xs i d hy hx e =
 module _ (ps : List Page) (a : Page) (e : kept ps ≡ some a) where
   pub kept-in : a ∈ ps
   unfolding kept
-  kept-in = keep-in activePage ps a (best-in over (keep activePage ps) a e) .0
+  kept-in = keep-in activePage ps a (best-in newerPage (keep activePage ps) a e) .0
 
   pub ordering-is : ordering ps ≡ fullMarks (others a ps) ++ keptMark a
   unfolding ordering orderSteps fullMarks keptMark

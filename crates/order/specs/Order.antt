@@ -3,7 +3,6 @@
 use mathlib.Core.Bool.{Bool, cond}
 use mathlib.Core.Option.{Option, none, some}
 use mathlib.Core.List.{List, [], _∷_, _++_, map}
-use Prim.Native.Nat.{ℕ}
 use lib.Dec.{eqb, ltb}
 use Rattle.flash.specs.Step.{Step}
 use Rattle.item.specs.Mark.{markFull}
@@ -11,9 +10,13 @@ use Rattle.lists.specs.Lists.{keep, best, takeOut}
 use Rattle.table.specs.declared.Page.{Page}
 use Rattle.table.specs.Table.{sequence, activePage, inSector, asFull}
 
+-- y, which stands later, goes before x: "of greatest sequence, the first among equals"
+abbrev pub newerPage : Page → Page → Bool
+newerPage y x = ltb (sequence x) (sequence y)
+
 -- "The Active page of greatest sequence, the first among equals"
 unfoldable pub kept : List Page → Option Page
-kept ps = best (λ (y x : Page). ltb (sequence x) (sequence y)) (keep activePage ps)
+kept ps = best newerPage (keep activePage ps)
 
 -- "changes places with the last of the list": it is taken out, so that the last takes its place, and put at the end
 abbrev pub others : Page → List Page → List Page

@@ -1,17 +1,12 @@
 -- What a turn of each loop of stage 1 adds, and the parts of its list of steps. Assumes nothing.
-use mathlib.Core.Bool.{Bool, cond}
+use mathlib.Core.Bool.{cond}
 use mathlib.Core.List.{List, [], _∷_, map}
-use lib.Dec.{ltb}
 use Rattle.flash.specs.Step.{Step}
 use Rattle.item.specs.Mark.{markFull}
 use Rattle.lists.specs.Lists.{keep}
 use Rattle.table.specs.declared.Page.{Page}
-use Rattle.table.specs.Table.{sequence, activePage, asFull}
+use Rattle.table.specs.Table.{activePage, asFull}
 use Rattle.order.specs.Order.{noEmpty}
-
--- "of greatest sequence, the first among equals": y, which stands later, goes before x
-abbrev pub over : Page → Page → Bool
-over y x = ltb (sequence x) (sequence y)
 
 abbrev pub closed : Page → Page
 closed p = cond (activePage p) (asFull p) p

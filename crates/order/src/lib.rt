@@ -14,12 +14,12 @@ ghost use Rattle.lists.specs.Lists.{keep};
 ghost use Rattle.table.specs.Table.{sectorsOf, activePage, asFull, listed, freed, Sized, Holds};
 ghost use Rattle.table.specs.Sought.{soughtOf, betterAmong};
 ghost use Rattle.table.specs.Placed.{Placed};
-ghost use Rattle.order.specs.Order.{kept, noEmpty, ordering, ordered};
-ghost use Rattle.order.specs.Turns.{over, closed, fullMarks, keptMark};
+ghost use Rattle.order.specs.Order.{newerPage, kept, noEmpty, ordering, ordered};
+ghost use Rattle.order.specs.Turns.{closed, fullMarks, keptMark};
 
 // The better of a page and the best Active one of those behind it: among equals the first.
 fn better_of(p: Page, best: Sought) -> Sought
-    ensures { λ r. ⌜ r ≡ betterAmong activePage over p best ⌝ }
+    ensures { λ r. ⌜ r ≡ betterAmong activePage newerPage p best ⌝ }
 {
     let seen = p.seen;
     let state = seen.state;

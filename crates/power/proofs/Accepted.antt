@@ -21,6 +21,7 @@ use Rattle.table.specs.Table.{freeing, freeingPage, pageAt, pages, sequence, wh
 use Rattle.table.proofs.Pages.{page-state, pages-in}
 use Rattle.finishing.specs.Finishing.{freeings}
 use Rattle.recover.specs.Recover.{accepted, tooHigh}
+use Rattle.recover.proofs.Listed.{none-freeing}
 use Rattle.power.proofs.State.{AllFree, Good, Old, Side, Source, State, Target, TargetRecord, done, freeings-one, full, gone, junk, junk-page, old-full, old-sequence, partly, same, source-record, target-page, target-record}
 use Rattle.power.proofs.Quiet.{Rest, freeings-none}
 use Rattle.power.proofs.Steps.{done-final, gone-final}
@@ -28,10 +29,6 @@ use Rattle.power.proofs.Steps.{done-final, gone-final}
 low-one : (ps : List Page) → freeings ps ≡ 1 → ((p : Page) → p ∈ ps → sequence p < 0xFFFFFFF1) → tooHigh ps ≡ false
 unfolding tooHigh
 low-one ps e h = let g = greatest-lt sequence ps 0xFFFFFFF1 (omega arith) h in rw (e, le-ltb (0xFFFFFFFE - 1) (greatest sequence ps) (omega arith))
-
-low-none : (ps : List Page) → freeings ps ≡ 0 → tooHigh ps ≡ false
-unfolding tooHigh
-low-none ps e = rw e
 
 module _ (L : List ℕ) (ok : accepted L ≡ true) where
   whole-same : (l : List ℕ) → length l ≡ length L → wholeSectors l ≡ true
@@ -48,7 +45,7 @@ module _ (L : List ℕ) (ok : accepted L ≡ true) where
   -- no Freeing page
   pub accept-rest : (l : List ℕ) → length l ≡ length L → Rest l → accepted l ≡ true
   accept-rest l e R =
-      accept-by l e (low-none (pages l) (freeings-none (pages l) (λ p m. rw (page-state l p m) (R .no-freeing (p .sector) (pages-in l p m .1)))))
+      accept-by l e (none-freeing (pages l) (freeings-none (pages l) (λ p m. rw (page-state l p m) (R .no-freeing (p .sector) (pages-in l p m .1)))))
 
 module _ (L : List ℕ) (s : ℕ) (G : Good L s) (small : (i : ℕ) → getD L i 0 < 256) (ok : accepted L ≡ true) where
   old-low : (p : Page) → Old L s p → sequence p < 0xFFFFFFF1

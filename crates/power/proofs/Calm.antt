@@ -13,7 +13,7 @@ use Rattle.entry.specs.States.{one}
 use Rattle.entry.specs.Fields.{indexCount, indexSize, keyNumber, keyOf, namespaceOf}
 use Rattle.page.proofs.Tests.{both-first, both-is, both-second}
 use Rattle.lists.specs.Lists.{keep, sortBy, sumOf}
-use Rattle.lists.proofs.Sums.{sum-ge, sum-keep, sum-le, sum-one, sum-plus}
+use Rattle.lists.proofs.Sums.{sum-ge, sum-kept-one, sum-le, sum-plus}
 use Rattle.lists.proofs.Search.{best-in, best-some, in-keep, keep-in}
 use Rattle.lists.proofs.Maps.{flatMap-each, in-map}
 use Rattle.lists.proofs.Sorting.{dropLast-none, length-sort}
@@ -25,7 +25,8 @@ use Rattle.duplicates.specs.Duplicates.{duplicateSteps, groups, members, olderT
 use Rattle.quick.specs.Calm.{Calm, inGroup, partOf, tot}
 use Rattle.quick.proofs.Idle.{erase-some, eraseAll-none}
 use Rattle.quick.proofs.Counts.{length-keep, length-one, one-le, one-true, pos-in}
-use Rattle.quick.proofs.Versions.{groupIn, index-not-chunk, index-part, pow-pos, split-in, version-group, versionIn-ne}
+use Rattle.duplicates.proofs.Versions.{groupIn, version-group}
+use Rattle.quick.proofs.Versions.{index-not-chunk, index-part, pow-pos, split-in, versionIn-ne}
 
 -- the items are made of bytes, and none of namespace 0 is a blob part
 abbrev pub Tidy : List Found → Type 0
@@ -161,16 +162,14 @@ module _ (fs : List Found) (tidy : Tidy fs) (idle3 : blobSteps fs ≡ []) (idle4
   unfolding sound
   count v h =
       let i = the-index v h in
-      sym (sum-keep (λ (x : Found). indexOf v (x .raw)) (λ (x : Found). indexCount (x .raw)) fs)
-      ∙ sum-one (λ (x : Found). indexCount (x .raw)) (indices v fs) (i .0) (i .1)
+      sum-kept-one (λ (x : Found). indexOf v (x .raw)) (λ (x : Found). indexCount (x .raw)) fs (i .0) (i .1)
       ∙ eqb-true _ _ (both-first (eqb (indexCount (i .0 .raw)) (sumOf (λ (x : Found). one (chunkOf v (x .raw))) fs)) _ ((i .2)))
 
   size : (v : ℕ) → 1 ≤ tot (λ (r : List ℕ). one (indexOf v r)) fs → tot (λ (r : List ℕ). cond (indexOf v r) (indexSize r) 0) fs ≡ tot (sizeIn v) fs
   unfolding sound
   size v h =
       let i = the-index v h in
-      sym (sum-keep (λ (x : Found). indexOf v (x .raw)) (λ (x : Found). indexSize (x .raw)) fs)
-      ∙ sum-one (λ (x : Found). indexSize (x .raw)) (indices v fs) (i .0) (i .1)
+      sum-kept-one (λ (x : Found). indexOf v (x .raw)) (λ (x : Found). indexSize (x .raw)) fs (i .0) (i .1)
       ∙ eqb-true _ _ (both-second (eqb (indexCount (i .0 .raw)) (sumOf (λ (x : Found). one (chunkOf v (x .raw))) fs)) _ ((i .2)))
 
   -- so the items are calm

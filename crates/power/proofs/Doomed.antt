@@ -13,13 +13,12 @@ use Rattle.entry.specs.Fields.{indexCount, indexSize, spanOf}
 use Rattle.page.proofs.Tests.{both-first, both-is, both-second}
 use Rattle.flash.specs.Step.{Step}
 use Rattle.lists.specs.Lists.{ascending, best, better, keep, sumOf}
-use Rattle.lists.proofs.Member.{_∈_, in-append, true≢false}
+use Rattle.lists.proofs.Member.{_∈_, in-append, refuted, true≢false}
 use Rattle.lists.proofs.Search.{in-keep, keep-in}
-use Rattle.lists.proofs.Sums.{sum-append, sum-ext, sum-keep, sum-one, sum-plus}
+use Rattle.lists.proofs.Sums.{sum-append, sum-ext, sum-keep, sum-kept-one, sum-plus}
 use Rattle.lists.proofs.Maps.{flatMap-append, flatMap-ext, flatMap-none}
 use Rattle.found.specs.Found.{Found, chunkOf, chunks, eraseAll, groupOf, indexOf, isChunk, isIndex, isPart, newer, versionOf}
 use Rattle.blobs.specs.Blobs.{blobSteps, counting, dropVersion, indices, judge, judgeWith, older, sizeIn, sound}
-use Rattle.duplicates.proofs.Once.{refuted}
 use Rattle.quick.specs.Calm.{inGroup, partOf, tot}
 use Rattle.quick.proofs.Idle.{older-idle}
 use Rattle.quick.proofs.Counts.{length-keep}
@@ -128,11 +127,9 @@ module _ (fs : List Found) where
   sound-one : (v : ℕ) (i : Found) → indices v fs ≡ i ∷ [] → soundIn fs v ≡ sound v fs i
   unfolding soundBy sound
   sound-one v i e =
-      let a = sum-keep (λ (x : Found). indexOf v (x .raw)) (λ (x : Found). indexCount (x .raw)) fs in
-      let b = sum-keep (λ (x : Found). indexOf v (x .raw)) (λ (x : Found). indexSize (x .raw)) fs in
-      let c = sum-one (λ (x : Found). indexCount (x .raw)) (indices v fs) i e in
-      let d = sum-one (λ (x : Found). indexSize (x .raw)) (indices v fs) i e in
-      rw (count-is v (i ∷ []) e, sym a ∙ c, sym b ∙ d)
+      let a = sum-kept-one (λ (x : Found). indexOf v (x .raw)) (λ (x : Found). indexCount (x .raw)) fs i e in
+      let b = sum-kept-one (λ (x : Found). indexOf v (x .raw)) (λ (x : Found). indexSize (x .raw)) fs i e in
+      rw (count-is v (i ∷ []) e, a, b)
 
 erase-flat : (g : ℕ → List Found) (vs : List ℕ) → flatMap (λ (v : ℕ). eraseAll (g v)) vs ≡ eraseAll (flatMap g vs)
 unfolding eraseAll flatMap

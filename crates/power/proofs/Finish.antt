@@ -7,7 +7,7 @@ use mathlib.Core.Option.{Option, none, some}
 use mathlib.Core.List.{List, [], _++_, _∷_, append-nil, getLast?}
 use Prim.Native.Nat.{_<_, _≤_, ℕ}
 use native.Mathlib.Omega.{arith}
-use lib.Dec.{eqb, leb, ltb}
+use lib.Dec.{eqb, ltb}
 use borrow.Author.Tests.{eq-eqb, eqb-false, eqb-true, lt-ltb, ltb-true, ne-eqb}
 use Rattle.entry.specs.States.{one}
 use Rattle.page.specs.declared.state.PageState.{PageState}
@@ -23,11 +23,11 @@ use Rattle.lists.proofs.Sums.{greatest-ge, greatest-lt, sum-ge}
 use Rattle.lists.proofs.Search.{best-in, best-some, best-top, every-of, first-none, first-only, last-append, some-in}
 use Rattle.lists.proofs.Out.{in-out, out-in, out-other, sum-out}
 use Rattle.lists.proofs.Member.{_∈_, true≢false}
+use Rattle.lists.proofs.Range.{sumTo-pair}
 use Rattle.table.specs.declared.Page.{Page}
 use Rattle.table.specs.Table.{activePage, freeingPage, inSector, itemsIn, pageAt, sectorsOf, sequence}
-use Rattle.table.proofs.Sectors.{sumTo-pair}
 use Rattle.table.proofs.Records.{record-sequence}
-use Rattle.finish.specs.Finish.{afresh, after, copyOf, holdsAll, nameOf, newest, newestHolds, nextSequence, round, roundWith, sameBytes}
+use Rattle.finish.specs.Finish.{afresh, after, copyOf, holdsAll, nameOf, newest, newestHolds, nextSequence, noOlderPage, round, roundWith, sameBytes}
 use Rattle.finishing.specs.Finishing.{freeings}
 use Rattle.power.proofs.Plain.{finish, finishOn, finishWith, rescan}
 use Rattle.power.proofs.Shape.{raws}
@@ -231,7 +231,7 @@ module _ (L : List ℕ) (s : ℕ) (G : Good L s) (r : PageRecord) (K : SourceRec
 
         the-newest : newest ts ≡ some N
         the-newest = unfold newest in
-            (let f = best-some (λ (y x : Page). leb (sequence x) (sequence y)) ts N N-in in
+            (let f = best-some noOlderPage ts N N-in in
             let h = best-top sequence ts (f .0) (f .1) N N-in in
             f .1 ∙ ap {B = Option Page} some (is-N (f .0) (f .2) (let c = W .has-sequence in omega arith)))
 

@@ -4,16 +4,16 @@ use mathlib.Core.Logic.{inl, inr}
 use mathlib.Core.Bool.{Bool, _&&_, cond, false, not, true}
 use mathlib.Core.Option.{Option, none, some}
 use mathlib.Core.List.{List, [], _++_, _∷_}
-use Prim.Native.Nat.{_≤_, suc, zero, ℕ}
+use Prim.Native.Nat.{suc, zero, ℕ}
 use native.Mathlib.Omega.{arith}
 use lib.Dec.{eqb}
 use lib.ListN.{length}
 use borrow.Author.Tests.{eq-eqb, eqb-true, ne-eqb}
 use Rattle.page.proofs.Tests.{both-first, both-is, both-second}
 use Rattle.lists.specs.Lists.{ascendFrom, ascendTo, ascending, keep, leastFrom, sumOf}
-use Rattle.lists.proofs.Member.{_∈_}
+use Rattle.lists.proofs.Member.{_∈_, cond-same}
 use Rattle.lists.proofs.Search.{in-keep}
-use Rattle.lists.proofs.Sums.{sum-ext, sum-le, sum-plus, sum-zero}
+use Rattle.lists.proofs.Sums.{sum-ext, sum-keep, sum-keep-le, sum-plus, sum-zero}
 use Rattle.lists.proofs.Maps.{flatMap-in, in-map, sum-flatMap}
 use Rattle.lists.proofs.Ascending.{ascend-from, in-ascending}
 use Rattle.found.specs.Found.{Found, chunks, isPart, versionOf}
@@ -59,10 +59,6 @@ by-number number f vs (x ∷ xs) h =
     let c = by-number number f vs xs (λ y m. h y (inr m)) in
     omega arith
 
-nothing : (b : Bool) → cond {A = ℕ} b 0 0 ≡ 0
-nothing true = refl
-nothing false = refl
-
 -- ---- a part of a version that is not sound
 abbrev pub lost : List Found → List ℕ → Bool
 lost fs r = isPart r && not (soundIn fs (versionOf r))
@@ -97,7 +93,7 @@ module _ (fs : List Found) where
             two false q false = refl
 
         go : (b : Bool) → soundIn fs v ≡ b → sumOf f (goes fs v) ≡ sumOf (λ (x : Found). cond (eqb (versionOf (x .raw)) v) (part x) 0) fs
-        go true e = let z : sumOf f (goes fs v) ≡ 0 = unfold sumOf in rw e in z ∙ sym (sum-zero _ fs (λ x m. sym (each true e x) ∙ nothing (partOf v (x .raw))))
+        go true e = let z : sumOf f (goes fs v) ≡ 0 = unfold sumOf in rw e in z ∙ sym (sum-zero _ fs (λ x m. sym (each true e x) ∙ cond-same (partOf v (x .raw))))
         go false e = goes-sum fs v e f ∙ sum-ext _ _ fs (λ x m. each false e x)
 
     -- each stands in its version, and each version is taken once
@@ -111,15 +107,10 @@ module _ (fs : List Found) where
         go x m true e =
             let n = in-keep (λ (y : Found). isPart (y .raw)) fs x m e in
             ascending-once (versionOf (x .raw)) (part x) _ (in-ascending _ _ (in-map (λ (y : Found). versionOf (y .raw)) (keep (λ (y : Found). isPart (y .raw)) fs) x n))
-        go x m false e = rw e (sum-zero _ (versions fs) (λ v n. nothing (eqb (versionOf (x .raw)) v)))
+        go x m false e = rw e (sum-zero _ (versions fs) (λ v n. cond-same (eqb (versionOf (x .raw)) v)))
 
   -- "no item is erased twice in a stage": what stands at different places goes from different places
   pub doomed-once : Once fs → Once (doomed fs)
-  doomed-once o = once-fewer fs (doomed fs) fewer o
-    where
-      go : (n : ℕ) (b : Bool) → cond b n 0 ≤ n
-      go n true = omega arith
-      go n false = omega arith
-
-      fewer : (f : Found → ℕ) → sumOf f (doomed fs) ≤ sumOf f fs
-      fewer f = let a = doomed-sum f in let b = sum-le (λ (x : Found). cond (lost fs (x .raw)) (f x) 0) f fs (λ x m. go (f x) (lost fs (x .raw))) in omega arith
+  doomed-once o =
+      once-fewer fs (doomed fs)
+      (λ f. let a = doomed-sum f in let b = sum-keep (λ (x : Found). lost fs (x .raw)) f fs in let c = sum-keep-le (λ (x : Found). lost fs (x .raw)) f fs in omega arith) o

@@ -16,7 +16,7 @@ use Rattle.page.specs.Walk.{Laid, fits, isItem, itemsOf, laidAt, onFrom, readab
 use Rattle.page.proofs.Tests.{both-first, both-is, both-second}
 use Rattle.page.proofs.Walking.{item-span}
 use Rattle.flash.specs.Step.{sector}
-use Rattle.lists.proofs.Member.{_∈_}
+use Rattle.lists.proofs.Member.{_∈_, refuted}
 use Rattle.table.specs.Table.{itemsIn}
 
 -- the bytes of the item at entry i, header and payload
@@ -49,6 +49,10 @@ pub is-item : (t : List ℕ) (i : ℕ) → IsItem t i → isItem t i ≡ true
 unfolding isItem
 is-item t i h =
     both-is _ _ (both-is _ _ (eq-eqb (stateAt t i) written (h .is-written)) (h .right)) (both-is _ _ (le-leb 1 _ (h .some)) (le-leb _ 126 (h .ends)))
+
+-- an entry that is not Written is no item
+pub no-item : (t : List ℕ) (i : ℕ) → (i < 126 → stateAt t i ≡ written → ⊥) → isItem t i ≡ false
+no-item t i h = refuted (isItem t i) (λ e. let r = item-is t i e in let a = r .some in let b = r .ends in h (omega arith) (r .is-written))
 
 -- a laid item that stands on the page t
 pub record Real (t : List ℕ) (x : Laid) : Type 0 where

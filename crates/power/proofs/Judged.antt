@@ -11,12 +11,12 @@ use Rattle.entry.specs.States.{one}
 use Rattle.entry.specs.Fields.{keyNumber, keyOf, namespaceOf, spanOf}
 use Rattle.page.proofs.Tests.{both-first, both-is, both-second, not-false, not-true}
 use Rattle.flash.specs.Step.{run}
-use Rattle.lists.proofs.Member.{_∈_}
+use Rattle.lists.proofs.Member.{_∈_, refuted}
 use Rattle.lists.proofs.Sums.{sum-ext, sum-ge, sum-plus}
 use Rattle.table.specs.declared.Page.{Page}
 use Rattle.found.specs.Found.{Found, eraseAll, found, indexOf, isIndex, isPart, versionOf}
 use Rattle.blobs.specs.Blobs.{blobSteps, sound}
-use Rattle.duplicates.proofs.Once.{Once, refuted}
+use Rattle.duplicates.proofs.Once.{Once}
 use Rattle.quick.specs.Calm.{inGroup, partOf, tot}
 use Rattle.quick.proofs.Counts.{one-true}
 use Rattle.power.specs.Demand3.{stored, total}

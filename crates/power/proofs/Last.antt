@@ -17,13 +17,13 @@ use Rattle.flash.specs.Step.{Step, run, sector}
 use Rattle.flash.proofs.Frame.{length-run}
 use Rattle.flash.proofs.Laws.{cut-append, run-append}
 use Rattle.item.specs.Mark.{markFull}
-use Rattle.lists.specs.Lists.{keep, sumOf}
+use Rattle.lists.specs.Lists.{keep, sumOf, sumTo}
 use Rattle.lists.proofs.Member.{_∈_}
 use Rattle.lists.proofs.Search.{keep-in}
 use Rattle.lists.proofs.Sums.{sum-keep-le}
+use Rattle.lists.proofs.Range.{sumTo-ext}
 use Rattle.table.specs.declared.Page.{Page}
 use Rattle.table.specs.Table.{active, activePage, freeing, inSector, pages, sectorsOf}
-use Rattle.table.proofs.Sectors.{sumTo, sumTo-ext}
 use Rattle.order.specs.Order.{ordered, ordering}
 use Rattle.found.specs.Found.{Found, eraseAll, found}
 use Rattle.duplicates.specs.Duplicates.{duplicateStage, lastMarks}

@@ -1,6 +1,6 @@
 -- A list that holds the pages of the image in some order: what is found on it is each item of the store, once. Assumes nothing.
 use mathlib.Core.Path.{_∙_, _≡_, ap, refl, sym}
-use mathlib.Core.Bool.{Bool, cond, false, true}
+use mathlib.Core.Bool.{cond, false}
 use mathlib.Core.List.{List}
 use Prim.Native.Nat.{_/_, _<_, _≤_, ℕ}
 use native.Mathlib.Omega.{arith}
@@ -11,14 +11,15 @@ use Rattle.entry.specs.States.{one}
 use Rattle.page.specs.State.{isFree, stateOf}
 use Rattle.page.specs.Walk.{Laid}
 use Rattle.flash.specs.Step.{sector}
-use Rattle.lists.specs.Lists.{sumOf}
+use Rattle.lists.specs.Lists.{sumOf, sumTo}
 use Rattle.lists.proofs.Member.{_∈_}
 use Rattle.lists.proofs.Maps.{flatMap-in, map-in}
 use Rattle.lists.proofs.Sums.{sum-ext, sum-ge}
+use Rattle.lists.proofs.Range.{sumTo-ext}
 use Rattle.table.specs.declared.Page.{Page}
 use Rattle.table.specs.Table.{frees, inSector, itemsIn, pages, sectorsOf}
 use Rattle.table.proofs.Pages.{length-frees, once, pages-in, sum-pages}
-use Rattle.table.proofs.Sectors.{sumTo, sumTo-ext}
+use Rattle.table.proofs.Places.{one-cond}
 use Rattle.found.specs.Found.{Found, found, foundOn}
 use Rattle.duplicates.proofs.Apart.{found-once}
 use Rattle.duplicates.proofs.Once.{Once}
@@ -72,11 +73,7 @@ module _ (l : List ℕ) (ps : List Page) (P : Lists l ps) where
       at p i h k e = rw e (h .0, rw (listed-items (p .sector) l (h .1)) at k)
 
   pub listed-count : (u : ℕ) → sumOf (λ (p : Page). one (inSector u p)) ps ≤ 1
-  listed-count u = rw (P (λ (v : ℕ). one (eqb v u)), sum-ext (λ (p : Page). one (inSector u p)) _ (pages l) (λ p m. as-one (inSector u p))) (once l u)
-    where
-      as-one : (b : Bool) → one b ≡ cond b 1 0
-      as-one true = refl
-      as-one false = refl
+  listed-count u = rw (P (λ (v : ℕ). one (eqb v u)), sum-ext (λ (p : Page). one (inSector u p)) _ (pages l) (λ p m. one-cond (inSector u p))) (once l u)
 
   pub listed-once : Once (found ps l)
   listed-once = found-once ps l listed-count

@@ -13,7 +13,7 @@ use Rattle.lists.specs.Lists.{keep, sumOf, takeOut}
 use Rattle.lists.proofs.Sums.{sum-append, sum-one}
 use Rattle.lists.proofs.Search.{best-in, best-some, in-keep, keep-in, keep-none}
 use Rattle.lists.proofs.Out.{in-out, out-in, out-other, sum-out}
-use Rattle.lists.proofs.Member.{_∈_, in-append, in-left, in-right, none≢some, true≢false}
+use Rattle.lists.proofs.Member.{_∈_, in-append, in-left, in-right, none≢some, refuted, true≢false}
 use Rattle.table.specs.declared.Page.{Page}
 use Rattle.table.specs.Table.{active, activePage, asFull, inSector, pages, sectorsOf}
 use Rattle.table.proofs.Pages.{once, page-same, page-state, pages-in}
@@ -65,13 +65,9 @@ module _ (l : List ℕ) (L : Lone l) (a : Page) (q : kept (pages l) ≡ some a) 
   a-self = eq-eqb (a .sector) (a .sector) refl
 
   q-active : (y : Page) → y ∈ qs → activePage y ≡ false
-  q-active y m = go (activePage y) refl
-    where
-      go : (b : Bool) → activePage y ≡ b → activePage y ≡ false
-      go false e = e
-      go true e =
-          let r = active-a y (out-in (inSector (a .sector)) (pages l) y m) e in
-          absurd (true≢false (ap {B = Bool} (λ (p : Page). inSector (a .sector) p) r ∙ a-self) (out-other (inSector (a .sector)) (pages l) a (a-in .0) a-self (once l (a .sector)) a-only y m))
+  q-active y m = refuted (activePage y) (λ e.
+      let r = active-a y (out-in (inSector (a .sector)) (pages l) y m) e in
+      true≢false (ap {B = Bool} (λ (p : Page). inSector (a .sector) p) r ∙ a-self) (out-other (inSector (a .sector)) (pages l) a (a-in .0) a-self (once l (a .sector)) a-only y m))
 
   as-is : (p : Page) → p ∈ qs → cond (activePage p) (asFull p) p ≡ p
   as-is p m = rw (q-active p m)
@@ -114,8 +110,4 @@ module _ (l : List ℕ) (L : Lone l) (a : Page) (q : kept (pages l) ≡ some a) 
 -- no Active page
 pub none-active : (l : List ℕ) → kept (pages l) ≡ none → (p : Page) → p ∈ pages l → activePage p ≡ false
 unfolding kept
-none-active l q p m = go (activePage p) refl
-  where
-    go : (b : Bool) → activePage p ≡ b → activePage p ≡ false
-    go false e = e
-    go true e = absurd (none≢some q (best-some _ (keep activePage (pages l)) p (in-keep activePage (pages l) p m e) .1))
+none-active l q p m = refuted (activePage p) (λ e. none≢some q (best-some _ (keep activePage (pages l)) p (in-keep activePage (pages l) p m e) .1))

@@ -1,7 +1,7 @@
 -- Recovery's steps without their stages: the same list, by the same rules. Assumes nothing.
 use mathlib.Core.Path.{_∙_, _≡_, ap, refl}
 use mathlib.Core.Option.{Option, none, some}
-use mathlib.Core.List.{List, [], _++_, _∷_}
+use mathlib.Core.List.{List, [], _++_}
 use Prim.Native.Nat.{suc, zero, ℕ}
 use Rattle.flash.specs.Step.{Step, run}
 use Rattle.lists.specs.Lists.{firstOf}
@@ -10,6 +10,7 @@ use Rattle.table.specs.Table.{freeingPage, frees, pages}
 use Rattle.answer.specs.declared.Stage.{Stage}
 use Rattle.answer.specs.declared.Stage.the-variants.{Blobs, Duplicates, Finish, Order}
 use Rattle.answer.specs.Staged.{Staged, tag, untag}
+use Rattle.answer.proofs.Made.{untag-append, untag-only}
 use Rattle.order.specs.Order.{ordered, ordering}
 use Rattle.finish.specs.Finish.{round}
 use Rattle.found.specs.Found.{found}
@@ -55,19 +56,7 @@ plain l = ordering (pages l) ++ onward (freeings (ordered (pages l))) (ordered (
 -- ---- the same list
 
 untag-tag : (x : Stage) (ss : List Step) (ts : List Staged) → untag (tag x ss ++ ts) ≡ ss ++ untag ts
-unfolding tag untag
-untag-tag x [] ts = refl
-untag-tag x (s ∷ ss) ts = ap {B = List Step} (λ (r : List Step). s ∷ r) (untag-tag x ss ts)
-
-untag-only : (x : Stage) (ss : List Step) → untag (tag x ss) ≡ ss
-unfolding tag untag
-untag-only x [] = refl
-untag-only x (s ∷ ss) = ap {B = List Step} (λ (r : List Step). s ∷ r) (untag-only x ss)
-
-untag-append : (a b : List Staged) → untag (a ++ b) ≡ untag a ++ untag b
-unfolding untag
-untag-append [] b = refl
-untag-append (t ∷ a) b = ap {B = List Step} (λ (r : List Step). t .step ∷ r) (untag-append a b)
+untag-tag x ss ts = untag-append (tag x ss) ts ∙ rw (untag-only x ss)
 
 finish-same : (n : ℕ) (ps : List Page) (fs l : List ℕ) → untag (finishing n ps fs l) ≡ finish n ps fs l
 unfolding finish finishing untag

@@ -1,7 +1,7 @@
 -- What the premises of demand 3 and of its general form give: every page is Full, and the items are tidy. Assumes nothing.
 use mathlib.Core.Path.{_≡_, ap, refl}
 use mathlib.Core.Logic.{⊎-elim}
-use mathlib.Core.Bool.{Bool, _&&_, _||_, false, true}
+use mathlib.Core.Bool.{_&&_, _||_, false, true}
 use mathlib.Core.List.{List}
 use Prim.Native.Nat.{_*_, _+_, _<_, ℕ}
 use native.Mathlib.Omega.{arith}
@@ -15,13 +15,13 @@ use Rattle.page.specs.declared.state.PageState.the-variants.{Active, Blank, Cor
 use Rattle.page.specs.Record.{recordOf}
 use Rattle.page.specs.State.{isFree, sequenceOf, stateOf}
 use Rattle.page.specs.Walk.{Laid}
-use Rattle.page.proofs.Tests.{both-is}
+use Rattle.page.proofs.Tests.{both-is, neither-first, neither-second}
 use Rattle.flash.specs.Step.{sector}
 use Rattle.flash.proofs.Order.{le-or-gt}
 use Rattle.lists.proofs.Sums.{sum-ge}
 use Rattle.lists.proofs.Search.{every-of, some-is}
 use Rattle.lists.proofs.Maps.{flatMap-in, map-in}
-use Rattle.lists.proofs.Member.{_∈_, true≢false}
+use Rattle.lists.proofs.Member.{_∈_, refuted, true≢false}
 use Rattle.table.specs.declared.Page.{Page}
 use Rattle.table.specs.Table.{active, activePage, freeing, freeingPage, itemsIn, pageAt, pages, sectorsOf, sequence}
 use Rattle.table.proofs.Scanning.{record-state}
@@ -32,7 +32,8 @@ use Rattle.found.proofs.Keys.{key-lt, part-small}
 use Rattle.power.specs.Demand3.{Premises}
 use Rattle.power.proofs.State.{Good}
 use Rattle.power.proofs.Calm.{Tidy}
-use Rattle.power.proofs.Steps.{free-neither}
+use Rattle.power.proofs.Quiet.{Still}
+use Rattle.power.proofs.Steps.{still-else}
 use Rattle.power.proofs.Items.{walk-in}
 use Rattle.power.proofs.Totals.{total-found}
 
@@ -41,37 +42,21 @@ module _ (L : List ℕ) (S : Premises L) where
   n = sectorsOf L
 
   neither : (p : Page) → p ∈ pages L → activePage p || freeingPage p ≡ false
-  neither p m = go (activePage p || freeingPage p) refl
-    where
-      go : (b : Bool) → activePage p || freeingPage p ≡ b → activePage p || freeingPage p ≡ false
-      go false e = e
-      go true e = absurd (true≢false (some-is (λ (z : Page). activePage z || freeingPage z) (pages L) p m e) (S .active-or-freeing))
+  neither p m = refuted (activePage p || freeingPage p) (λ e. true≢false (some-is (λ (z : Page). activePage z || freeingPage z) (pages L) p m e) (S .active-or-freeing))
 
   -- no page is Active, and none is Freeing
   pub no-active : (p : Page) → p ∈ pages L → activePage p ≡ false
-  no-active p m = go (activePage p) (neither p m)
-    where
-      go : (b : Bool) → b || freeingPage p ≡ false → b ≡ false
-      go true e = absurd (true≢false refl e)
-      go false e = refl
+  no-active p m = neither-first (activePage p) _ (neither p m)
 
   pub no-freeing : (p : Page) → p ∈ pages L → freeingPage p ≡ false
-  no-freeing p m = go (activePage p) (neither p m)
-    where
-      go : (b : Bool) → b || freeingPage p ≡ false → freeingPage p ≡ false
-      go true e = absurd (true≢false refl e)
-      go false e = e
+  no-freeing p m = neither-second (activePage p) _ (neither p m)
 
   -- the same of a sector
-  pub state-of : (u : ℕ) → u < n → (active (stateOf (sector u L)) ≡ false) × (freeing (stateOf (sector u L)) ≡ false)
-  state-of u h = go (isFree (stateOf (sector u L))) refl
-    where
-      go : (b : Bool) → isFree (stateOf (sector u L)) ≡ b → (active (stateOf (sector u L)) ≡ false) × (freeing (stateOf (sector u L)) ≡ false)
-      go true e = free-neither (stateOf (sector u L)) e
-      go false e =
-          let m = in-pages L u h e in
-          let r = record-state (sector u L) in
-          (rw r at (no-active (pageAt u L) m), rw r at (no-freeing (pageAt u L) m))
+  pub state-of : (u : ℕ) → u < n → Still (stateOf (sector u L))
+  state-of u h = still-else (stateOf (sector u L)) (λ e.
+      let m = in-pages L u h e in
+      let r = record-state (sector u L) in
+      (rw r at (no-active (pageAt u L) m), rw r at (no-freeing (pageAt u L) m)))
 
   is-full : (u : ℕ) → u < n → isFree (stateOf (sector u L)) ≡ false → stateOf (sector u L) ≡ Full
   is-full u h f = go (stateOf (sector u L)) f (state-of u h .0) (state-of u h .1)

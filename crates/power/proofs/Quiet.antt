@@ -55,6 +55,15 @@ pub record Rest (l : List ℕ) : Type 0 where
   pub no-freeing : (u : ℕ) → u < sectorsOf l → freeing (stateOf (sector u l)) ≡ false
   pub lone : Lone l
 
+-- neither Active nor Freeing
+abbrev pub Still : PageState → Type 0
+Still M = (active M ≡ false) × (freeing M ≡ false)
+
+-- such an image is one of which every sector is still
+pub still-rest : (l : List ℕ) → ((u : ℕ) → u < sectorsOf l → Still (stateOf (sector u l))) → Rest l
+unfolding Lone
+still-rest l h = record { no-freeing = λ u k. h u k .1; lone = λ u v hu hv eu ev. absurd (true≢false eu (h u hu .0)) }
+
 -- what stage 1 gives there: it marks nothing, or the Active page, which has no Empty entry; and the list holds the same pages
 pub record Ordered (l : List ℕ) (ss : List Step) (ps : List Page) : Type 0 where
   pub steps : Marks l ss

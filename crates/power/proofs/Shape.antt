@@ -23,7 +23,7 @@ use Rattle.item.specs.Mark.{pageState}
 use Rattle.item.proofs.States.{state-byte}
 use Rattle.item.proofs.Header.{header-right, header-sequence}
 use Rattle.power.proofs.Read.{Word4, noRoom, right-same, sequence-same, state-is}
-use Rattle.power.proofs.Items.{is-item, item-is}
+use Rattle.power.proofs.Items.{is-item, no-item}
 
 -- the bytes of items laid one after the other
 abbrev pub raws : List Laid → List (List ℕ)
@@ -75,18 +75,12 @@ laid-snoc T j [] p r e a b = (rw e a, rw e b, rw e)
 laid-snoc T j (x ∷ rs) p r e a b = (e .0, e .1, laid-snoc T (j + spanOf x) rs p r (e .2) a b)
 
 -- ---- the walk over them
-empty-item : (T : List ℕ) (i : ℕ) → (i < 126 → stateAt T i ≡ empty) → isItem T i ≡ false
-empty-item T i h = go (isItem T i) refl
-  where
-    go : (b : Bool) → isItem T i ≡ b → isItem T i ≡ false
-    go false q = q
-    go true q = let r = item-is T i q in let a = r .some in let b = r .ends in let c = h (omega arith) in let d = r .is-written in absurd (omega arith)
 
--- the walk finds nothing among Empty entries
+-- it finds nothing among Empty entries
 pub walk-empty : (T : List ℕ) (n i : ℕ) → ((e : ℕ) → i ≤ e → e < 126 → stateAt T e ≡ empty) → walk T n i ≡ []
 unfolding walk
 walk-empty T zero i h = refl
-walk-empty T (suc n) i h = rw (empty-item T i (h i (omega arith))) (walk-empty T n (i + 1) (λ e a. h e (omega arith)))
+walk-empty T (suc n) i h = rw (no-item T i (λ k w. let c = h i (omega arith) k in omega arith)) (walk-empty T n (i + 1) (λ e a. h e (omega arith)))
 
 -- and it finds the rows, one after the other
 pub walk-laid : (T : List ℕ) (p n j : ℕ) (rs : List (List ℕ)) → 126 ≤ j + n → p ≤ 126 → ((e : ℕ) → p ≤ e → e < 126 → stateAt T e ≡ empty) → AllFine rs

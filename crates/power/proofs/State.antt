@@ -16,10 +16,10 @@ use Rattle.page.specs.State.{isFree, sequenceOf, stateOf}
 use Rattle.page.specs.Walk.{Laid, itemsOf}
 use Rattle.flash.specs.Step.{sector}
 use Rattle.lists.proofs.Member.{_∈_, true≢false}
+use Rattle.lists.proofs.Range.{sumTo-at}
 use Rattle.table.specs.declared.Page.{Page}
 use Rattle.table.specs.Table.{freeingPage, pageAt, pages, sectorsOf, sequence}
 use Rattle.table.proofs.Scanning.{record-state}
-use Rattle.table.proofs.Sectors.{sumTo-at}
 use Rattle.table.proofs.Pages.{in-pages, pages-in, sum-pages}
 use Rattle.table.proofs.Records.{record-sequence}
 use Rattle.finish.specs.Finish.{nameOf, sameBytes}

@@ -15,17 +15,17 @@ use Rattle.page.specs.State.{isFree, sequenceOf, stateOf}
 use Rattle.page.specs.Walk.{Laid, itemsOf}
 use Rattle.flash.specs.Step.{sector}
 use Rattle.flash.proofs.Erased.{length-sector}
-use Rattle.lists.specs.Lists.{sumOf}
+use Rattle.lists.specs.Lists.{sumOf, sumTo}
 use Rattle.lists.proofs.Maps.{in-map, map-in, sum-map}
 use Rattle.lists.proofs.Member.{true≢false}
+use Rattle.lists.proofs.Range.{sumTo-ext, sumTo-one-le, sumTo-two, sumTo-two-le}
 use Rattle.table.specs.Table.{active, freeing, frees, sectorsOf}
-use Rattle.table.proofs.Sectors.{sumTo, sumTo-ext, sumTo-one-le, sumTo-two, sumTo-two-le}
 use Rattle.table.proofs.Pages.{length-frees}
 use Rattle.power.specs.Demand3.{total}
 use Rattle.power.proofs.State.{AllFree, Good, Partial, Settled, Side, Source, State, Target, done, full, junk, partly, target-apart}
 use Rattle.power.proofs.Move.{Cut, blank-free, ended, going, ready, unmade}
 use Rattle.power.proofs.Lone.{Lone}
-use Rattle.power.proofs.Quiet.{Rest}
+use Rattle.power.proofs.Quiet.{Rest, Still, still-rest}
 use Rattle.power.proofs.Finish.{Seq}
 use Rattle.power.proofs.Shape.{AllFine, raws}
 use Rattle.power.proofs.Items.{free-none}
@@ -38,12 +38,15 @@ abbrev pub freeAt : List ℕ → ℕ → ℕ
 freeAt l u = one (isFree (stateOf (sector u l)))
 
 -- a free sector is neither Active nor Freeing
-pub free-neither : (M : PageState) → isFree M ≡ true → (active M ≡ false) × (freeing M ≡ false)
-free-neither Blank e = (refl, refl)
-free-neither Corrupt e = (refl, refl)
-free-neither Active e = absurd (true≢false e refl)
-free-neither Full e = absurd (true≢false e refl)
-free-neither Freeing e = absurd (true≢false e refl)
+pub still-else : (M : PageState) → (isFree M ≡ false → Still M) → Still M
+still-else Blank h = (refl, refl)
+still-else Corrupt h = (refl, refl)
+still-else Active h = h refl
+still-else Full h = h refl
+still-else Freeing h = h refl
+
+free-still : (M : PageState) → isFree M ≡ true → Still M
+free-still M e = still-else M (λ f. absurd (true≢false e f))
 
 raws-sum : (f : List ℕ → ℕ) (xs ys : List Laid) → raws xs ≡ raws ys → sumOf (λ (i : Laid). f (i .raw)) xs ≡ sumOf (λ (i : Laid). f (i .raw)) ys
 raws-sum f xs ys e = sym (sum-map f (λ (i : Laid). i .raw) xs) ∙ ap (sumOf f) e ∙ sum-map f (λ (i : Laid). i .raw) ys
@@ -54,6 +57,10 @@ pub record Final (L m : List ℕ) : Type 0 where
   pub rest : Rest m
   pub totals : (f : List ℕ → ℕ) → total f m ≡ total f L
   pub free : length (frees L) ≤ length (frees m)
+
+-- a store of which every sector is still is such an image itself
+pub still-final : (L : List ℕ) → ((u : ℕ) → u < sectorsOf L → Still (stateOf (sector u L))) → Final L L
+still-final L h = record { len = refl; rest = still-rest L h; totals = λ f. refl; free = omega arith }
 
 module _ (L : List ℕ) (s : ℕ) (G : Good L s) (small : (i : ℕ) → getD L i 0 < 256) where
   abbrev n : ℕ
@@ -159,8 +166,8 @@ module _ (L : List ℕ) (s : ℕ) (G : Good L s) (small : (i : ℕ) → getD L i
 
     active-t : (u : ℕ) → u < n → active (stateOf (sector u m)) ≡ true → u ≡ t
     active-t u h e =
-        ⊎-elim (λ k. absurd (true≢false e (free-neither (stateOf (sector u m)) (at-s u k) .0)))
-        (λ k. ⊎-elim (λ z. z) (λ z. absurd (⊎-elim (λ w. true≢false e (rw (w .2))) (λ w. true≢false e (free-neither (stateOf (sector u m)) (w .0) .0)) z)) k) (which u h)
+        ⊎-elim (λ k. absurd (true≢false e (free-still (stateOf (sector u m)) (at-s u k) .0)))
+        (λ k. ⊎-elim (λ z. z) (λ z. absurd (⊎-elim (λ w. true≢false e (rw (w .2))) (λ w. true≢false e (free-still (stateOf (sector u m)) (w .0) .0)) z)) k) (which u h)
 
     at-t : (u : ℕ) → u ≡ t → Settled (sector t m) → freeing (stateOf (sector u m)) ≡ false
     at-t u k (inl w) = let y : stateOf (sector u m) ≡ Active = ap (λ (v : ℕ). stateOf (sector v m)) k ∙ w in rw y
@@ -168,8 +175,8 @@ module _ (L : List ℕ) (s : ℕ) (G : Good L s) (small : (i : ℕ) → getD L i
 
     freeing-no : (u : ℕ) → u < n → freeing (stateOf (sector u m)) ≡ false
     freeing-no u h =
-        ⊎-elim (λ k. free-neither (stateOf (sector u m)) (at-s u k) .1)
-        (λ k. ⊎-elim (λ z. at-t u z W) (λ z. ⊎-elim (λ w. rw (w .2)) (λ w. free-neither (stateOf (sector u m)) (w .0) .1) z) k) (which u h)
+        ⊎-elim (λ k. free-still (stateOf (sector u m)) (at-s u k) .1)
+        (λ k. ⊎-elim (λ z. at-t u z W) (λ z. ⊎-elim (λ w. rw (w .2)) (λ w. free-still (stateOf (sector u m)) (w .0) .1) z) k) (which u h)
 
     -- the target holds the source's items: the sums are the store's
     pub done-final : Final L m
@@ -214,22 +221,18 @@ module _ (L : List ℕ) (s : ℕ) (G : Good L s) (small : (i : ℕ) → getD L i
         go false x true z = inr (inr (F u h z, z))
 
     -- every sector is Full or free
-    quiet-at : (u : ℕ) → u < n → (active (stateOf (sector u m)) ≡ false) × (freeing (stateOf (sector u m)) ≡ false)
+    quiet-at : (u : ℕ) → u < n → Still (stateOf (sector u m))
     quiet-at u h =
-        ⊎-elim (λ k. free-neither (stateOf (sector u m)) (ap (λ (v : ℕ). isFree (stateOf (sector v m))) k ∙ fs))
-        (λ k. ⊎-elim (λ z. rw (z .2) (refl, refl)) (λ z. free-neither (stateOf (sector u m)) (z .0)) k) (sort u h)
+        ⊎-elim (λ k. free-still (stateOf (sector u m)) (ap (λ (v : ℕ). isFree (stateOf (sector v m))) k ∙ fs))
+        (λ k. ⊎-elim (λ z. rw (z .2) (refl, refl)) (λ z. free-still (stateOf (sector u m)) (z .0)) k) (sort u h)
 
     -- the source had no items: the sums are the store's
     pub gone-final : Final L m
-    unfolding Lone
     gone-final =
         let nm : sectorsOf m ≡ n = ap (λ (k : ℕ). k / 4096) (D .len) in
         record {
           len = D .len;
-          rest = record {
-            no-freeing = λ u h. quiet-at u (rw nm at h) .1;
-            lone = λ u v hu hv eu ev. absurd (true≢false eu (quiet-at u (rw nm at hu) .0));
-          };
+          rest = still-rest m (λ u h. quiet-at u (rw nm at h));
           totals = λ f. total-from f m (D .len) (sumTo-ext (onSector f m) (onSector f L) n (same-at f));
           free = free-from m (D .len) (sumTo-one-le (freeAt L) (freeAt m) n s (G .here) free-same (let a : freeAt L s ≡ 0 = rw (G .page) in omega arith));
         }
@@ -245,21 +248,6 @@ module _ (L : List ℕ) (s : ℕ) (G : Good L s) (small : (i : ℕ) → getD L i
         free-same : (u : ℕ) → u < n → (u ≡ s → ⊥) → freeAt L u ≡ freeAt m u
         free-same u h a = ⊎-elim (λ k. absurd (a k)) (λ k. ⊎-elim (λ w. rw (w .1)) (λ w. rw (w .0, w .1)) k) (sort u h)
 
-  -- the store itself
-  pub full-or-free : (u : ℕ) → u < n → (active (stateOf (sector u L)) ≡ false) × (freeing (stateOf (sector u L)) ≡ false)
-  full-or-free u h = go (isFree (stateOf (sector u L))) refl
-    where
-      go : (b : Bool) → isFree (stateOf (sector u L)) ≡ b → (active (stateOf (sector u L)) ≡ false) × (freeing (stateOf (sector u L)) ≡ false)
-      go true e = free-neither (stateOf (sector u L)) e
-      go false e = rw (G .fulls u h e) (refl, refl)
-
-  -- is such an image
+  -- the store itself: each of its sectors is Full or free
   pub same-final : Final L L
-  unfolding Lone
-  same-final = record {
-    len = refl;
-    rest =
-        record { no-freeing = λ u h. full-or-free u h .1; lone = λ u v hu hv eu ev. absurd (true≢false eu (full-or-free u hu .0)) };
-    totals = λ f. refl;
-    free = omega arith;
-  }
+  same-final = still-final L (λ u h. still-else (stateOf (sector u L)) (λ e. rw (G .fulls u h e) (refl, refl)))

@@ -6,12 +6,12 @@ use Prim.Native.Nat.{ℕ}
 use Rattle.page.specs.State.{isFree, stateOf}
 use Rattle.page.specs.Walk.{Laid, itemsOf}
 use Rattle.flash.specs.Step.{sector}
-use Rattle.lists.specs.Lists.{sumOf}
+use Rattle.lists.specs.Lists.{sumOf, sumTo}
 use Rattle.lists.proofs.Sums.{sum-ext}
 use Rattle.lists.proofs.Maps.{sum-flatMap, sum-map}
+use Rattle.lists.proofs.Range.{sumTo-ext}
 use Rattle.table.specs.declared.Page.{Page}
 use Rattle.table.specs.Table.{itemsIn, pages, sectorsOf}
-use Rattle.table.proofs.Sectors.{sumTo, sumTo-ext}
 use Rattle.table.proofs.Pages.{sum-pages}
 use Rattle.found.specs.Found.{Found, found, foundOn}
 use Rattle.power.specs.Demand3.{stored, total}

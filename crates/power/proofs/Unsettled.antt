@@ -3,13 +3,12 @@ use mathlib.Core.Path.{_∙_, _≡_, refl, sym}
 use mathlib.Core.Bool.{Bool, _&&_, _||_, cond, false, not, true}
 use mathlib.Core.List.{List}
 use Prim.Native.Nat.{_^_, _≤_, ℕ}
-use native.Mathlib.Omega.{arith}
 use lib.Dec.{eqb, ltb}
 use borrow.Author.Tests.{eq-eqb, lt-ltb}
 use Rattle.entry.specs.States.{one}
 use Rattle.entry.specs.Fields.{keyNumber, keyOf, spanOf}
 use Rattle.page.proofs.Tests.{both-is}
-use Rattle.lists.proofs.Member.{_∈_, true≢false}
+use Rattle.lists.proofs.Member.{_∈_}
 use Rattle.lists.proofs.Search.{every-of}
 use Rattle.lists.proofs.Sums.{sum-zero}
 use Rattle.table.specs.Table.{pages}
@@ -21,20 +20,13 @@ use Rattle.power.specs.General.{Unsettled}
 use Rattle.power.proofs.Doomed.{sound-is, soundBy-same}
 use Rattle.power.proofs.Judged.{Fit}
 use Rattle.power.proofs.Left.{Left, final-left, soundOf}
-use Rattle.power.proofs.Lone.{Lone}
 use Rattle.power.proofs.Premises.{state-of, tidy}
+use Rattle.power.proofs.Steps.{still-final}
 use Rattle.power.proofs.Totals.{total-found}
 
 -- nothing is gone yet
 pub store-left : (L : List ℕ) → Premises L → Left L L
-unfolding Lone
-store-left L S =
-    final-left L L (record {
-      len = refl;
-      rest = record { no-freeing = λ u h. state-of L S u h .1; lone = λ u v hu hv eu ev. absurd (true≢false eu (state-of L S u hu .0)) };
-      totals = λ f. refl;
-      free = omega arith;
-    })
+store-left L S = final-left L L (still-final L (state-of L S))
 
 -- what stage 3 asks of an index, by the sums of the store
 pub sound-found : (L : List ℕ) → Premises L → ((g : ℕ) → total (λ (r : List ℕ). one (inGroup g r)) L ≤ 1) → (x : Found) → x ∈ found (pages L) L → isIndex (x .raw) ≡ true

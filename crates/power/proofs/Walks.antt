@@ -16,16 +16,8 @@ use Rattle.page.specs.Walk.{Laid, isItem, itemsOf, laidAt, onFrom, walk}
 use Rattle.page.proofs.Walking.{goes-on, item-span, walk-item, walk-past, walk-skip}
 use Rattle.lists.specs.Lists.{keep}
 use Rattle.lists.proofs.Member.{_∈_}
-use Rattle.power.proofs.Items.{item-is}
+use Rattle.power.proofs.Items.{no-item}
 use Rattle.power.proofs.Once.{but, items-in, walk-from}
-
--- an entry that is Erased is no item
-erased-item : (t : List ℕ) (i : ℕ) → stateAt t i ≡ 0 → isItem t i ≡ false
-erased-item t i z = go (isItem t i) refl
-  where
-    go : (b : Bool) → isItem t i ≡ b → isItem t i ≡ false
-    go false q = q
-    go true q = let w = item-is t i q .is-written in absurd (omega arith)
 
 -- a turn of the walk, and what is left of it without entry e
 module _ (t : List ℕ) (e m : ℕ) where
@@ -95,7 +87,7 @@ module _ (T U : List ℕ) (rest : drop 64 U ≡ drop 64 T) where
       -- the walk goes over them
       over : (k i : ℕ) → e ≤ i → i + k ≡ e + n → walk U 126 i ≡ walk U 126 (e + n)
       over zero i h q = let r : i ≡ e + n = omega arith in rw r
-      over (suc k) i h q = walk-skip U i (erased-item U i (gone i h (omega arith))) ∙ over k (i + 1) (omega arith) (omega arith)
+      over (suc k) i h q = walk-skip U i (no-item U i (λ k w. let z = gone i h (omega arith) in omega arith)) ∙ over k (i + 1) (omega arith) (omega arith)
 
       walk-gone : (m i : ℕ) → 126 ≤ i + m → Met m i → walk U 126 i ≡ but e (walk T m i)
       unfolding keep

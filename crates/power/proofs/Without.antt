@@ -14,11 +14,11 @@ use Rattle.page.specs.Walk.{itemsOf}
 use Rattle.page.proofs.Tests.{both-is}
 use Rattle.flash.specs.Step.{Step, run, sector}
 use Rattle.flash.proofs.Laws.{cut-append, run-append}
-use Rattle.lists.specs.Lists.{sumOf}
+use Rattle.lists.specs.Lists.{sumOf, sumTo}
 use Rattle.lists.proofs.Member.{_∈_, true≢false}
 use Rattle.lists.proofs.Sums.{sum-append}
+use Rattle.lists.proofs.Range.{off, sumTo-ext, sumTo-off}
 use Rattle.table.specs.Table.{sectorsOf}
-use Rattle.table.proofs.Sectors.{off, sumTo, sumTo-ext, sumTo-off}
 use Rattle.found.specs.Found.{Found, eraseAll}
 use Rattle.duplicates.proofs.Once.{Once, once-first, once-rest}
 use Rattle.quick.specs.Calm.{tot}

@@ -11,12 +11,14 @@ use Rattle.word.specs.Number.{part}
 use Rattle.word.proofs.Bytes.{part-byte}
 use Rattle.entry.specs.States.{one}
 use Rattle.entry.specs.Fields.{chunkIndexOf, chunkSize, indexCount, indexSize, keyNumber, keyOf, namespaceOf, spanOf}
-use Rattle.page.proofs.Tests.{both-first, both-is, both-second}
-use Rattle.lists.specs.Lists.{some-of, sumOf}
-use Rattle.lists.proofs.Member.{_∈_, true≢false}
+use Rattle.page.proofs.Tests.{both-first, both-is, both-second, either-second, not-true}
+use Rattle.lists.specs.Lists.{some-of, sumOf, sumTo}
+use Rattle.lists.proofs.Member.{_∈_, cond-same, true≢false}
 use Rattle.lists.proofs.Search.{some-in}
 use Rattle.lists.proofs.Sums.{sum-ext, sum-ge, sum-le, sum-plus}
 use Rattle.lists.proofs.Maps.{sum-map}
+use Rattle.lists.proofs.Range.{sumTo-ext}
+use Rattle.table.proofs.Places.{one-cond}
 use Rattle.found.specs.Found.{Found, chunkOf, groupOf, indexOf, isChunk, isIndex, isPart, versionOf}
 use Rattle.found.specs.Places.{itemAt, itemsAt}
 use Rattle.blobs.specs.Blobs.{sizeIn, versionIn}
@@ -24,37 +26,30 @@ use Rattle.duplicates.specs.Duplicates.{ranked}
 use Rattle.quick.specs.Calm.{Calm, inGroup, partOf, tot}
 use Rattle.quick.specs.Names.{chunkName, chunkNumber, judged, nameOf}
 use Rattle.quick.specs.Slots.{EachSlot, rawAt, told}
-use Rattle.quick.specs.Fits.{Fits, Led, Named, called, sumTo, toldRaw}
+use Rattle.quick.specs.Fits.{Fits, Led, Named, called, toldRaw}
 use Rattle.quick.proofs.Counts.{one-le, one-true, pos-in, sum-only}
 use Rattle.found.proofs.Each.{of-each}
 use Rattle.found.proofs.Keys.{key-lt}
-use Rattle.quick.proofs.Versions.{groupIn, index-not-chunk, index-part, pow-pos, split-in, version-group, versionIn-ne}
+use Rattle.duplicates.proofs.Versions.{groupIn, version-group}
+use Rattle.quick.proofs.Versions.{index-not-chunk, index-part, pow-pos, split-in, versionIn-ne}
 use Rattle.quick.proofs.Idle.{calm-same}
 use Rattle.quick.proofs.Looking.{told-name, told-slot}
 use Rattle.quick.proofs.Naming.{name-chunk, name-other, number-same}
-use Rattle.quick.proofs.Numbers.{by-number, sum-to-ext, sum-to-one}
+use Rattle.quick.proofs.Numbers.{by-number, sum-to-one}
 
 -- f summed over the bytes of the items at the places
-abbrev over : List ℕ → List ℕ → (List ℕ → ℕ) → ℕ
-over l ps f = sumOf (λ (p : ℕ). f (rawAt l p)) ps
+abbrev totAt : List ℕ → List ℕ → (List ℕ → ℕ) → ℕ
+totAt l ps f = sumOf (λ (p : ℕ). f (rawAt l p)) ps
 
 part-judged : (r : List ℕ) → isPart r ≡ true → judged r ≡ true
-part-judged r e = go (leb 1 (namespaceOf r))
-  where
-    go : (b : Bool) → b || isPart r ≡ true
-    go true = refl
-    go false = e
+part-judged r e = either-second (leb 1 (namespaceOf r)) _ e
 
 chunk-part : (r : List ℕ) → isChunk r ≡ true → isPart r ≡ true
 chunk-part r e = rw e
 
 -- an item that stage 4 judges is judged, and no chunk
 ranked-judged : (r : List ℕ) → ranked r ≡ true → (isChunk r ≡ false) × (judged r ≡ true)
-ranked-judged r e = (go (isChunk r) (both-first (not (isChunk r)) _ e), rw (both-second (not (isChunk r)) _ e))
-  where
-    go : (b : Bool) → not b ≡ true → b ≡ false
-    go true q = absurd (true≢false refl (sym q))
-    go false q = refl
+ranked-judged r e = (not-true (isChunk r) (both-first (not (isChunk r)) _ e), rw (both-second (not (isChunk r)) _ e))
 
 module _ (t l ps : List ℕ) (small : (p : ℕ) → (chunkIndexOf (rawAt l p) < 256) × (keyNumber (keyOf (rawAt l p)) < 2 ^ 128))
     (named : Named t l ps) (fits : (p : ℕ) → p ∈ ps → Fits t l (rawAt l p)) where
@@ -67,7 +62,7 @@ module _ (t l ps : List ℕ) (small : (p : ℕ) → (chunkIndexOf (rawAt l p) < 
       let group = version-group v r (small p .1) (eqb-true (versionOf r) v (both-second (isIndex r) _ e)) in
       both-is (judged r) _ (part-judged r (index-part r index)) (eq-eqb (nameOf r) (groupIn v) (name-other r (index-not-chunk r index) ∙ group))
 
-  single : (g : ℕ) → over l ps (λ (r : List ℕ). one (inGroup g r)) ≤ 1
+  single : (g : ℕ) → totAt l ps (λ (r : List ℕ). one (inGroup g r)) ≤ 1
   single g =
       let a = sum-le (λ (p : ℕ). one (inGroup g (rawAt l p))) (λ (p : ℕ). one (called g (rawAt l p))) ps (λ p m. one-le _ _ (each (rawAt l p))) in
       let b = named .once g in
@@ -78,13 +73,13 @@ module _ (t l ps : List ℕ) (small : (p : ℕ) → (chunkIndexOf (rawAt l p) < 
           let k = ranked-judged r (both-first (ranked r) _ e) in
           both-is (judged r) _ (k .1) (eq-eqb (nameOf r) g (name-other r (k .0) ∙ eqb-true (groupOf r) g (both-second (ranked r) _ e)))
 
-  lone : (v : ℕ) → over l ps (λ (r : List ℕ). one (indexOf v r)) ≤ 1
+  lone : (v : ℕ) → totAt l ps (λ (r : List ℕ). one (indexOf v r)) ≤ 1
   lone v =
       let a = sum-le (λ (p : ℕ). one (indexOf v (rawAt l p))) (λ (p : ℕ). one (called (groupIn v) (rawAt l p))) ps (λ p m. one-le _ _ (index-called v p)) in
       let b = named .once (groupIn v) in
       omega arith
 
-  not-both : (g : ℕ) → over l ps (λ (r : List ℕ). one (indexOf (versionIn g 0) r)) + over l ps (λ (r : List ℕ). one (indexOf (versionIn g 0x80) r)) ≤ 1
+  not-both : (g : ℕ) → totAt l ps (λ (r : List ℕ). one (indexOf (versionIn g 0) r)) + totAt l ps (λ (r : List ℕ). one (indexOf (versionIn g 0x80) r)) ≤ 1
   not-both g =
       let a = sum-plus (λ (p : ℕ). one (indexOf (versionIn g 0) (rawAt l p))) (λ (p : ℕ). one (indexOf (versionIn g 0x80) (rawAt l p))) ps in
       let b = sum-le (λ (p : ℕ). one (indexOf (versionIn g 0) (rawAt l p)) + one (indexOf (versionIn g 0x80) (rawAt l p))) (λ (p : ℕ). one (called g (rawAt l p))) ps
@@ -108,20 +103,20 @@ module _ (t l ps : List ℕ) (small : (p : ℕ) → (chunkIndexOf (rawAt l p) < 
       let m = some-in (eqb (told t l k)) ps (told-slot t l k (λ (p : ℕ). some-of (eqb p) ps ≡ true) (named .only) h) in
       rw (eqb-true (told t l k) (m .0) (m .2)) (m .1)
 
-  has : (v : ℕ) → 1 ≤ over l ps (λ (r : List ℕ). one (partOf v r)) → 1 ≤ over l ps (λ (r : List ℕ). one (indexOf v r))
+  has : (v : ℕ) → 1 ≤ totAt l ps (λ (r : List ℕ). one (partOf v r)) → 1 ≤ totAt l ps (λ (r : List ℕ). one (indexOf v r))
   has v h =
       let x = pos-in (λ (p : ℕ). partOf v (rawAt l p)) ps h in
       let r = rawAt l (x .0) in
       go (x .0) (x .1) (isChunk r) refl (both-first (isPart r) _ (x .2)) (both-second (isPart r) _ (x .2))
     where
-      counted : (p : ℕ) → p ∈ ps → indexOf v (rawAt l p) ≡ true → 1 ≤ over l ps (λ (r : List ℕ). one (indexOf v r))
+      counted : (p : ℕ) → p ∈ ps → indexOf v (rawAt l p) ≡ true → 1 ≤ totAt l ps (λ (r : List ℕ). one (indexOf v r))
       counted p m e =
           let g = sum-ge (λ (q : ℕ). one (indexOf v (rawAt l q))) ps p m in
           let z = one-true (indexOf v (rawAt l p)) e in
           omega arith
 
       go : (p : ℕ) → p ∈ ps → (b : Bool) → isChunk (rawAt l p) ≡ b → (b || isIndex (rawAt l p)) ≡ true → eqb (versionOf (rawAt l p)) v ≡ true
-          → 1 ≤ over l ps (λ (r : List ℕ). one (indexOf v r))
+          → 1 ≤ totAt l ps (λ (r : List ℕ). one (indexOf v r))
       go p m true q f w =
           let c = fits p m .chunk q in
           counted _ (led-in (groupOf (rawAt l p)) (c .some)) (rw (eqb-true (versionOf (rawAt l p)) v w) at (c .index))
@@ -136,7 +131,7 @@ module _ (t l ps : List ℕ) (small : (p : ℕ) → (chunkIndexOf (rawAt l p) < 
         let e = index-called v m index in
         ap (told t l) (sym (eqb-true (nameOf r) (groupIn v) (both-second (judged r) _ e))) ∙ of-each (Led t l) ps (named .led) m here (both-first (judged r) _ e) .1
 
-    of-index : (f : List ℕ → ℕ) → over l ps (λ (r : List ℕ). cond (indexOf v r) (f r) 0) ≡ f (rawAt l m)
+    of-index : (f : List ℕ → ℕ) → totAt l ps (λ (r : List ℕ). cond (indexOf v r) (f r) 0) ≡ f (rawAt l m)
     of-index f =
         sum-only (λ (p : ℕ). called (groupIn v) (rawAt l p)) (λ (p : ℕ). cond (indexOf v (rawAt l p)) (f (rawAt l p)) 0) ps m here (index-called v m index) (named .once (groupIn v))
         (λ p k e. other p e (indexOf v (rawAt l p)) refl)
@@ -191,40 +186,32 @@ module _ (t l ps : List ℕ) (small : (p : ℕ) → (chunkIndexOf (rawAt l p) < 
           other p g e false x b y = refl
 
       -- all of its chunks are those that the table leads to
-      of-chunks : over l ps (λ (r : List ℕ). cond (chunkOf v r) (f r) 0) ≡ sumTo (λ j. f (toldRaw t l (chunkName v j))) (indexCount (rawAt l m))
+      of-chunks : totAt l ps (λ (r : List ℕ). cond (chunkOf v r) (f r) 0) ≡ sumTo (λ j. f (toldRaw t l (chunkName v j))) (indexCount (rawAt l m))
       of-chunks =
           let c = indexCount (rawAt l m) in
           sum-ext counts (λ (p : ℕ). cond (ltb (chunkNumber (rawAt l p)) c) (counts p) 0) ps (λ p n. all p n (chunkOf v (rawAt l p)) refl)
           ∙ sym (by-number counts (λ (p : ℕ). chunkNumber (rawAt l p)) ps c)
-          ∙ sum-to-ext (λ j. sumOf (numbered j) ps) (λ j. f (toldRaw t l (chunkName v j))) c one-number
+          ∙ sumTo-ext (λ j. sumOf (numbered j) ps) (λ j. f (toldRaw t l (chunkName v j))) c one-number
         where
-          none : (b : Bool) → cond {A = ℕ} b 0 0 ≡ 0
-          none true = refl
-          none false = refl
-
           all : (p : ℕ) → p ∈ ps → (b : Bool) → chunkOf v (rawAt l p) ≡ b
               → cond b (f (rawAt l p)) 0 ≡ cond (ltb (chunkNumber (rawAt l p)) (indexCount (rawAt l m))) (cond b (f (rawAt l p)) 0) 0
           all p h true e = rw (lt-ltb _ _ (chunk-here p h e .0))
-          all p h false e = sym (none (ltb (chunkNumber (rawAt l p)) (indexCount (rawAt l m))))
+          all p h false e = sym (cond-same (ltb (chunkNumber (rawAt l p)) (indexCount (rawAt l m))))
 
-    one-cond : (b : Bool) → one b ≡ cond b 1 0
-    one-cond true = refl
-    one-cond false = refl
-
-    count-here : over l ps (λ (r : List ℕ). cond (indexOf v r) (indexCount r) 0) ≡ over l ps (λ (r : List ℕ). one (chunkOf v r))
+    count-here : totAt l ps (λ (r : List ℕ). cond (indexOf v r) (indexCount r) 0) ≡ totAt l ps (λ (r : List ℕ). one (chunkOf v r))
     count-here =
         of-index indexCount
         ∙ sym (sum-ext (λ (p : ℕ). one (chunkOf v (rawAt l p))) (λ (p : ℕ). cond (chunkOf v (rawAt l p)) 1 0) ps (λ p n. one-cond (chunkOf v (rawAt l p))) ∙ of-chunks (λ r. 1) ∙ sum-to-one (indexCount (rawAt l m)))
 
-    size-here : over l ps (λ (r : List ℕ). cond (indexOf v r) (indexSize r) 0) ≡ over l ps (sizeIn v)
+    size-here : totAt l ps (λ (r : List ℕ). cond (indexOf v r) (indexSize r) 0) ≡ totAt l ps (sizeIn v)
     unfolding sizeIn
     size-here =
         let r = rawAt l m in
         let version = eqb-true (versionOf r) v (both-second (isIndex r) _ index) in
         of-index indexSize ∙ sym (of-chunks chunkSize ∙ ap (λ (w : ℕ). sumTo (λ j. chunkSize (toldRaw t l (chunkName w j))) (indexCount r)) (sym version) ∙ fits m here .index (both-first (isIndex r) _ index) .size)
 
-  calm-over : Calm (over l ps)
-  calm-over =
+  calm-at : Calm (totAt l ps)
+  calm-at =
       record {
         single = single;
         lone = lone;
@@ -266,4 +253,4 @@ module _ (t l ps : List ℕ) (small : (j : ℕ) → getD l j 0 < 256) (named : N
 
   pub calm-items : Calm (λ (f : List ℕ → ℕ). tot f (itemsAt l ps))
   calm-items =
-      calm-same (λ (f : List ℕ → ℕ). tot f (itemsAt l ps)) (over l ps) (λ f. sum-map (λ (x : Found). f (x .raw)) (itemAt l) ps) (calm-over t l ps small-item named all-fit)
+      calm-same (λ (f : List ℕ → ℕ). tot f (itemsAt l ps)) (totAt l ps) (λ f. sum-map (λ (x : Found). f (x .raw)) (itemAt l) ps) (calm-at t l ps small-item named all-fit)

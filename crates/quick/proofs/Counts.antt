@@ -1,5 +1,5 @@
 -- Counting the members of a list that pass. Assumes nothing.
-use mathlib.Core.Path.{_≡_, refl}
+use mathlib.Core.Path.{_≡_, refl, sym, _∙_}
 use mathlib.Core.Logic.{inl, inr}
 use mathlib.Core.Bool.{Bool, cond, false, true}
 use mathlib.Core.List.{List, [], _∷_}
@@ -9,7 +9,8 @@ use lib.ListN.{length}
 use Rattle.entry.specs.States.{one}
 use Rattle.lists.specs.Lists.{keep, sumOf}
 use Rattle.lists.proofs.Member.{_∈_}
-use Rattle.lists.proofs.Sums.{sum-ge, sum-zero}
+use Rattle.lists.proofs.Sums.{sum-ext, sum-ge, sum-keep, sum-zero}
+use Rattle.table.proofs.Places.{length-sum, one-cond}
 
 -- a list of one
 pub length-one : {A : Type 0} (xs : List A) → length xs ≡ 1 → (x : A) × (xs ≡ x ∷ [])
@@ -37,13 +38,7 @@ pos-in p (x ∷ xs) h = go (p x) refl h (pos-in p xs)
 
 -- what is kept is what is counted
 pub length-keep : {A : Type 0} (p : A → Bool) (xs : List A) → length (keep p xs) ≡ sumOf (λ (x : A). one (p x)) xs
-unfolding sumOf keep
-length-keep p [] = refl
-length-keep p (x ∷ xs) = go (p x) (length-keep p xs)
-  where
-    go : (b : Bool) → length (keep p xs) ≡ sumOf (λ (x : _). one (p x)) xs → length (cond b (x ∷ keep p xs) (keep p xs)) ≡ one b + sumOf (λ (x : _). one (p x)) xs
-    go true q = omega arith
-    go false q = omega arith
+length-keep p xs = length-sum (keep p xs) ∙ sum-keep p (λ (x : _). 1) xs ∙ sym (sum-ext (λ (x : _). one (p x)) (λ (x : _). cond (p x) 1 0) xs (λ x m. one-cond (p x)))
 
 -- where the one test holds, the other does
 pub one-le : (a b : Bool) → (a ≡ true → b ≡ true) → one a ≤ one b

@@ -13,7 +13,7 @@ use Rattle.page.proofs.Tests.{both-first, both-is, both-second}
 use Rattle.item.specs.States.{statesDown, unmarking}
 use Rattle.item.specs.Erase.{erasing}
 use Rattle.lists.specs.Lists.{ascending, best, better, keep, sortBy}
-use Rattle.lists.proofs.Sums.{sum-ge, sum-keep, sum-one}
+use Rattle.lists.proofs.Sums.{sum-ge, sum-kept-one}
 use Rattle.lists.proofs.Search.{best-in, keep-in}
 use Rattle.lists.proofs.Maps.{flatMap-none, map-in}
 use Rattle.lists.proofs.Sorting.{dropLast-short, length-sort}
@@ -98,11 +98,9 @@ module _ (fs : List Found) (C : Calm (λ (f : List ℕ → ℕ). tot f fs)) wher
   sound-is : (v : ℕ) (i : Found) → indices v fs ≡ i ∷ [] → 1 ≤ tot (λ (r : List ℕ). one (indexOf v r)) fs → sound v fs i ≡ true
   unfolding sound
   sound-is v i e h =
-      let a = sum-keep (λ (x : Found). indexOf v (x .raw)) (λ (x : Found). indexCount (x .raw)) fs in
-      let b = sum-keep (λ (x : Found). indexOf v (x .raw)) (λ (x : Found). indexSize (x .raw)) fs in
-      let c = sum-one (λ (x : Found). indexCount (x .raw)) (indices v fs) i e in
-      let d = sum-one (λ (x : Found). indexSize (x .raw)) (indices v fs) i e in
-      both-is _ _ (eq-eqb _ _ (sym c ∙ a ∙ C .count v h)) (eq-eqb _ _ (sym d ∙ b ∙ C .size v h))
+      let a = sum-kept-one (λ (x : Found). indexOf v (x .raw)) (λ (x : Found). indexCount (x .raw)) fs i e in
+      let b = sum-kept-one (λ (x : Found). indexOf v (x .raw)) (λ (x : Found). indexSize (x .raw)) fs i e in
+      both-is _ _ (eq-eqb _ _ (sym a ∙ C .count v h)) (eq-eqb _ _ (sym b ∙ C .size v h))
 
   judge-idle : (v : ℕ) → 1 ≤ tot (λ (r : List ℕ). one (partOf v r)) fs → judge fs v ≡ []
   unfolding judge judgeWith counting best better

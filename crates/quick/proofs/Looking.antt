@@ -22,41 +22,32 @@ slot-in t i h = go (ltb i (length t)) refl
 module _ (t l : List ℕ) (k : ℕ) where
   -- ---- one slot, as the code counts
   module _ (n i : ℕ) (h : n < 4096) where
+    one-less : 4096 - n ≡ suc (4096 - (n + 1))
+    one-less = omega arith
+
     pub look-free : getD t i 0 ≡ 0 → look t l k (4096 - n) i ≡ 0
     unfolding look
-    look-free e =
-        let q : 4096 - n ≡ suc (4096 - (n + 1)) = omega arith in
-        rw (q, eq-eqb _ 0 e)
+    look-free e = rw (one-less, eq-eqb _ 0 e)
 
     pub look-hit : (getD t i 0 ≡ 0 → ⊥) → hit l k (getD t i 0) ≡ true → look t l k (4096 - n) i ≡ getD t i 0
     unfolding look
-    look-hit e p =
-        let q : 4096 - n ≡ suc (4096 - (n + 1)) = omega arith in
-        rw (q, ne-eqb _ 0 e, p)
+    look-hit e p = rw (one-less, ne-eqb _ 0 e, p)
 
     pub look-miss : (getD t i 0 ≡ 0 → ⊥) → hit l k (getD t i 0) ≡ false → look t l k (4096 - n) i ≡ look t l k (4096 - (n + 1)) ((i + 1) % 4096)
     unfolding look
-    look-miss e p =
-        let q : 4096 - n ≡ suc (4096 - (n + 1)) = omega arith in
-        rw (q, ne-eqb _ 0 e, p)
+    look-miss e p = rw (one-less, ne-eqb _ 0 e, p)
 
     pub gap-free : getD t i 0 ≡ 0 → gap t l k (4096 - n) i ≡ i
     unfolding gap
-    gap-free e =
-        let q : 4096 - n ≡ suc (4096 - (n + 1)) = omega arith in
-        rw (q, eq-eqb _ 0 e)
+    gap-free e = rw (one-less, eq-eqb _ 0 e)
 
     pub gap-hit : (getD t i 0 ≡ 0 → ⊥) → hit l k (getD t i 0) ≡ true → gap t l k (4096 - n) i ≡ 4096
     unfolding gap
-    gap-hit e p =
-        let q : 4096 - n ≡ suc (4096 - (n + 1)) = omega arith in
-        rw (q, ne-eqb _ 0 e, p)
+    gap-hit e p = rw (one-less, ne-eqb _ 0 e, p)
 
     pub gap-miss : (getD t i 0 ≡ 0 → ⊥) → hit l k (getD t i 0) ≡ false → gap t l k (4096 - n) i ≡ gap t l k (4096 - (n + 1)) ((i + 1) % 4096)
     unfolding gap
-    gap-miss e p =
-        let q : 4096 - n ≡ suc (4096 - (n + 1)) = omega arith in
-        rw (q, ne-eqb _ 0 e, p)
+    gap-miss e p = rw (one-less, ne-eqb _ 0 e, p)
 
   pub look-end : (n i : ℕ) → 4096 ≤ n → look t l k (4096 - n) i ≡ 0
   unfolding look

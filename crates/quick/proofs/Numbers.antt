@@ -2,18 +2,12 @@
 use mathlib.Core.Path.{_≡_, refl, ap, _∙_}
 use mathlib.Core.Bool.{Bool, true, false, cond}
 use mathlib.Core.List.{List}
-use Prim.Native.Nat.{ℕ, zero, suc, _+_, _<_}
+use Prim.Native.Nat.{ℕ, zero, suc, _+_}
 use native.Mathlib.Omega.{arith}
 use lib.Dec.{eqb, ltb}
 use borrow.Author.Tests.{eqb-true, eqb-false, ltb-true, ltb-false, le-ltb}
-use Rattle.lists.specs.Lists.{sumOf}
+use Rattle.lists.specs.Lists.{sumOf, sumTo}
 use Rattle.lists.proofs.Sums.{sum-ext, sum-plus, sum-zero}
-use Rattle.quick.specs.Fits.{sumTo}
-
-pub sum-to-ext : (f g : ℕ → ℕ) (n : ℕ) → ((j : ℕ) → j < n → f j ≡ g j) → sumTo f n ≡ sumTo g n
-unfolding sumTo
-sum-to-ext f g zero h = refl
-sum-to-ext f g (suc n) h = let a = sum-to-ext f g n (λ j k. h j (omega arith)) in let b = h n (omega arith) in omega arith
 
 pub sum-to-one : (n : ℕ) → sumTo (λ j. 1) n ≡ n
 unfolding sumTo

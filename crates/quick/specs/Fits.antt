@@ -2,20 +2,15 @@
 use mathlib.Core.Path.{_≡_}
 use mathlib.Core.Bool.{Bool, true, _&&_}
 use mathlib.Core.List.{List, _++_}
-use Prim.Native.Nat.{ℕ, zero, suc, _+_, _<_, _≤_}
+use Prim.Native.Nat.{ℕ, _<_, _≤_}
 use lib.Dec.{eqb}
 use Rattle.entry.specs.States.{one}
 use Rattle.entry.specs.Fields.{chunkSize, indexCount, indexSize}
-use Rattle.lists.specs.Lists.{some-of, sumOf}
+use Rattle.lists.specs.Lists.{some-of, sumOf, sumTo}
 use Rattle.found.specs.Found.{isChunk, isIndex, versionOf, groupOf, indexOf, chunkOf}
 use Rattle.found.specs.Places.{Each}
 use Rattle.quick.specs.Names.{judged, nameOf, chunkNumber, chunkName}
 use Rattle.quick.specs.Slots.{rawAt, told, EachSlot, Leads}
-
--- f 0 + .. + f (n - 1)
-unfoldable pub sumTo : (ℕ → ℕ) → ℕ → ℕ
-sumTo f zero = 0
-sumTo f (suc n) = sumTo f n + f n
 
 -- a judged item of the name k
 abbrev pub called : ℕ → List ℕ → Bool

@@ -1,3 +1,2 @@
-pub mod Local
 pub mod Told
 pub mod Handed

@@ -1,23 +1,19 @@
 -- The stages in sequence: what each one's steps leave to the next. Assumes nothing.
-use mathlib.Core.Path.{_≡_, refl, sym, ap, _∙_}
-use mathlib.Core.Bool.{Bool, true, false}
-use mathlib.Core.List.{List, [], _∷_, _++_, map}
-use Prim.Native.Nat.{ℕ, zero, suc, _+_, _-_, _*_, _≤_, _<_}
+use mathlib.Core.Path.{_≡_, refl}
+use mathlib.Core.List.{List}
+use Prim.Native.Nat.{ℕ, zero, suc}
 use native.Mathlib.Omega.{arith}
-use lib.ListN.{length, take}
 use Rattle.flash.specs.declared.Ran.{Ran}
 use Rattle.flash.specs.declared.Ran.the-variants.{Done, Stopped}
 use Rattle.flash.specs.Step.{Step, run}
 use Rattle.flash.specs.Did.{Did}
-use Rattle.flash.proofs.Laws.{did-all}
-use Rattle.flash.proofs.Frame.{length-run}
 use Rattle.answer.specs.declared.Stage.{Stage}
 use Rattle.answer.specs.declared.Stage.the-variants.{Order, Blobs, Duplicates}
 use Rattle.answer.specs.declared.Went.{Went}
 use Rattle.answer.specs.declared.Went.the-variants.{Ended, Short}
 use Rattle.answer.specs.Staged.{Staged, tag, untag}
 use Rattle.answer.specs.Went.{Made}
-use Rattle.answer.proofs.Made.{made-tag, made-then, made-stop, made-all}
+use Rattle.answer.proofs.Made.{made-then, made-stop, made-all, making-start, making-then, making-stop}
 use Rattle.table.specs.declared.Page.{Page}
 use Rattle.table.specs.Table.{pages, frees}
 use Rattle.order.specs.Order.{ordering, ordered}
@@ -29,16 +25,6 @@ use Rattle.quick.specs.Calm.{Calm, tot}
 use Rattle.quick.proofs.Idle.{blob-idle, duplicate-idle}
 use Rattle.recover.specs.Recover.{lastStages, fromOrder, fromFinish, afterOrder, recovering}
 
--- the steps of one stage, and then those that the rules give for what they left
-module _ (x : Stage) {ss : List Step} (rest : List ℕ → List Staged) {n : ℕ} {l m : List ℕ} {r : Ran} where
-  then-on : {k : ℕ} {m′ : List ℕ} {w : Went} → Did ss n l m r → r ≡ Done k → Made (rest m) k m m′ w → Made (tag x ss ++ rest (run ss l)) n l m′ w
-  then-on d e next =
-      let did = rw e at d in
-      made-then (made-tag x did) (rw (← did-all did) next)
-
-  then-stop : Did ss n l m r → r ≡ Stopped → Made (tag x ss ++ rest (run ss l)) n l m (Short x)
-  then-stop d e = made-stop (rest (run ss l)) (made-tag x (rw e at d))
-
 -- ---- stages 3 and 4
 
 module _ (ps : List Page) {n : ℕ} {l m : List ℕ} {r : Ran} (d : Did (blobSteps (found ps l)) n l m r) where
@@ -47,11 +33,11 @@ module _ (ps : List Page) {n : ℕ} {l m : List ℕ} {r : Ran} (d : Did (blobSte
 
   pub blobs-stop : r ≡ Stopped → Made (lastStages ps l) n l m (Short Blobs)
   unfolding lastStages
-  blobs-stop e = then-stop Blobs repairs d e
+  blobs-stop e = making-stop (making-start _ n l) Blobs _ refl d e
 
   pub blobs-on : {k : ℕ} {m′ : List ℕ} {w : Went} → r ≡ Done k → Made (tag Duplicates (duplicateStage ps m)) k m m′ w → Made (lastStages ps l) n l m′ w
   unfolding lastStages
-  blobs-on e next = then-on Blobs repairs d e next
+  blobs-on e next = making-then (making-start _ n l) Blobs repairs refl d e .on _ _ next
 
 -- where neither has anything to repair, the last marks are left
 pub calm-stages : (ps : List Page) (l : List ℕ) → Calm (λ (f : List ℕ → ℕ). tot f (found ps l)) → lastStages ps l ≡ tag Duplicates (lastMarks ps l)
@@ -63,11 +49,11 @@ calm-stages ps l calm = rw (blob-idle (found ps l) calm, duplicate-idle (found p
 module _ (ps : List Page) {n : ℕ} {l m : List ℕ} {r : Ran} (d : Did (ordering ps) n l m r) where
   pub order-stop : r ≡ Stopped → Made (fromOrder ps l) n l m (Short Order)
   unfolding fromOrder
-  order-stop e = then-stop Order (lastStages (ordered ps)) d e
+  order-stop e = making-stop (making-start _ n l) Order _ refl d e
 
   pub order-on : {k : ℕ} {m′ : List ℕ} {w : Went} → r ≡ Done k → Made (lastStages (ordered ps) m) k m m′ w → Made (fromOrder ps l) n l m′ w
   unfolding fromOrder
-  order-on e next = then-on Order (lastStages (ordered ps)) d e next
+  order-on e next = making-then (making-start _ n l) Order (lastStages (ordered ps)) refl d e .on _ _ next
 
 -- ---- stage 2, and then 1, 3 and 4
 
@@ -91,11 +77,11 @@ module _ {n : ℕ} {l m : List ℕ} {r : Ran} (d : Did (ordering (pages l)) n l 
 
   pub all-stop : r ≡ Stopped → Made (recovering l) n l m (Short Order)
   unfolding recovering
-  all-stop e = then-stop Order onward d e
+  all-stop e = making-stop (making-start _ n l) Order _ refl d e
 
   all-on : {k : ℕ} {m′ : List ℕ} {w : Went} → r ≡ Done k → Made (onward m) k m m′ w → Made (recovering l) n l m′ w
   unfolding recovering
-  all-on e next = then-on Order onward d e next
+  all-on e next = making-then (making-start _ n l) Order onward refl d e .on _ _ next
 
   onward-none : (c : ℕ) (ps : List Page) (fs k : List ℕ) → c ≡ 0 → afterOrder c ps fs k ≡ lastStages ps k
   unfolding afterOrder

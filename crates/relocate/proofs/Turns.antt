@@ -2,27 +2,16 @@
 use mathlib.Core.Path.{_≡_, sym, ap, _∙_}
 use mathlib.Core.Bool.{true, false}
 use mathlib.Core.List.{List, [], _++_}
-use Prim.Native.Nat.{ℕ, _+_, _*_, _≤_, _<_}
-use native.Mathlib.Nat.{add-assoc}
+use Prim.Native.Nat.{ℕ, _+_, _*_, _≤_}
 use native.Mathlib.Omega.{arith}
-use lib.ListN.{getD, length-take, length-drop}
-use lib.Seq.{ext-getD}
 use Rattle.word.specs.Number.{part}
-use Rattle.word.proofs.Bytes.{part-byte}
+use Rattle.word.proofs.Bytes.{part-byte, part-part}
 use Rattle.entry.specs.Fields.{entryAt, spanOf}
 use Rattle.page.specs.Walk.{isItem, laidAt, walk}
 use Rattle.page.proofs.Walking.{item-span, walk-item, walk-skip, walk-past}
 use Rattle.flash.specs.Step.{sector}
 use Rattle.item.specs.Copy.{copying}
 use Rattle.relocate.specs.Move.{copies}
-
--- a part of a part
-part-part : (l : List ℕ) (a n k m : ℕ) → k + m ≤ n → part (part l a n) k m ≡ part l (a + k) m
-part-part l a n k m h =
-    ext-getD 0 _ _ (simp (length-take, length-drop) (omega arith)) (λ i g.
-    let b : i < m = omega (arith, simp (length-take, length-drop) at g) in
-    part-byte (part l a n) k m i b ∙ part-byte l a n (k + i) (omega arith)
-    ∙ ap (λ (x : ℕ). getD l x 0) (sym (add-assoc a k i)) ∙ sym (part-byte l (a + k) m i b))
 
 -- the bytes of an item begin with its span
 pub raw-span : (t : List ℕ) (i : ℕ) → isItem t i ≡ true → spanOf (laidAt t i .raw) ≡ spanOf (entryAt t i)

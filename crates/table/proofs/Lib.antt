@@ -1,4 +1,3 @@
-pub mod Sectors
 pub mod Records
 pub mod Pages
 pub mod Scanning

@@ -12,13 +12,13 @@ use Rattle.entry.specs.States.{countState, empty, one}
 use Rattle.page.specs.declared.state.PageState.{PageState}
 use Rattle.page.specs.State.{isFree, stateOf}
 use Rattle.flash.specs.Step.{sector}
-use Rattle.lists.specs.Lists.{sumOf}
+use Rattle.lists.specs.Lists.{sumOf, sumTo}
 use Rattle.lists.proofs.Sums.{sum-append}
-use Rattle.lists.proofs.Member.{_∈_, in-append, in-left, in-right}
+use Rattle.lists.proofs.Member.{_∈_, cond-same, in-append, in-left, in-right}
+use Rattle.lists.proofs.Range.{sumTo-only}
 use Rattle.table.specs.declared.Page.{Page}
 use Rattle.table.specs.Table.{frees, freesTo, inSector, pageAt, pages, pagesTo, sectorsOf}
 use Rattle.table.proofs.Scanning.{record-state}
-use Rattle.table.proofs.Sectors.{sumTo, sumTo-only}
 use Rattle.table.proofs.Records.{record-empty, record-erased}
 
 module _ (l : List ℕ) where
@@ -134,14 +134,10 @@ module _ (l : List ℕ) where
   pub once : (s : ℕ) → sumOf (λ (p : Page). cond (inSector s p) 1 0) (pages l) ≤ 1
   once s =
       let a = sum-pages (λ (p : Page). cond (inSector s p) 1 0) in
-      let b = sumTo-only (λ (u : ℕ). cond (isFree (stateOf (sector u l))) 0 (cond (eqb u s) 1 0)) (sectorsOf l) s (λ u z k. rw (ne-eqb u s k) (zero-cond (isFree (stateOf (sector u l))))) in
+      let b = sumTo-only (λ (u : ℕ). cond (isFree (stateOf (sector u l))) 0 (cond (eqb u s) 1 0)) (sectorsOf l) s (λ u z k. rw (ne-eqb u s k) (cond-same (isFree (stateOf (sector u l))))) in
       let c = cond-one (isFree (stateOf (sector s l))) (eqb s s) in
       omega arith
     where
-      zero-cond : (b : Bool) → cond {A = ℕ} b 0 0 ≡ 0
-      zero-cond true = refl
-      zero-cond false = refl
-
       cond-one : (b c : Bool) → cond b 0 (cond c 1 0) ≤ 1
       cond-one true c = omega arith
       cond-one false true = omega arith

@@ -76,6 +76,10 @@ pub one-le : (b : Bool) → one b ≤ 1
 one-le true = omega arith
 one-le false = omega arith
 
+pub one-cond : (b : Bool) → one b ≡ cond b 1 0
+one-cond true = refl
+one-cond false = refl
+
 below-one : (u n : ℕ) → 1 ≤ one (ltb u n) → u < n
 below-one u n h = go (ltb u n) refl h
   where

@@ -6,6 +6,7 @@ use mathlib.Core.Option.{Option, none, some}
 use mathlib.Core.List.{List, [], _∷_}
 use Prim.Native.Nat.{ℕ}
 use native.Mathlib.Omega.{arith}
+use lib.Dec.{eqb}
 use Rattle.lists.specs.Lists.{keep, firstOf, better, best}
 use Rattle.lists.proofs.Member.{_∈_, none≢some}
 use Rattle.page.specs.declared.state.PageState.{PageState}
@@ -14,7 +15,7 @@ use Rattle.table.specs.declared.Page.{Page}
 use Rattle.table.specs.declared.Sought.{Sought}
 use Rattle.table.specs.declared.Sought.the-variants.{Found, Nothing}
 use Rattle.table.specs.Table.{active, freeing, activePage, freeingPage}
-use Rattle.table.specs.Sought.{soughtOf, betterOf, betterAmong, inState}
+use Rattle.table.specs.Sought.{soughtOf, betterOf, betterAmong, codeOf, inState}
 
 module _ (p : Page → Bool) (x : Page) (xs : List Page) where
   pub first-here : p x ≡ true → firstOf p (x ∷ xs) ≡ some x
@@ -40,25 +41,19 @@ unfolding firstOf
 first-same p q h [] = refl
 first-same p q h (x ∷ xs) = rw (h x, first-same p q h xs)
 
+-- the codes tell an Active page, and a Freeing one
+codes : (s : PageState) → (eqb (codeOf s) (codeOf Active) ≡ active s) × (eqb (codeOf s) (codeOf Freeing) ≡ freeing s)
+codes Blank = (refl, refl)
+codes Corrupt = (refl, refl)
+codes Active = (refl, refl)
+codes Full = (refl, refl)
+codes Freeing = (refl, refl)
+
 pub active-is : (p : Page) → inState Active p ≡ activePage p
-active-is p = go (p .seen .state) refl
-  where
-    go : (s : PageState) → p .seen .state ≡ s → inState Active p ≡ activePage p
-    go Blank e = rw e
-    go Corrupt e = rw e
-    go Active e = rw e
-    go Full e = rw e
-    go Freeing e = rw e
+active-is p = codes (p .seen .state) .0
 
 pub freeing-is : (p : Page) → inState Freeing p ≡ freeingPage p
-freeing-is p = go (p .seen .state) refl
-  where
-    go : (s : PageState) → p .seen .state ≡ s → inState Freeing p ≡ freeingPage p
-    go Blank e = rw e
-    go Corrupt e = rw e
-    go Active e = rw e
-    go Full e = rw e
-    go Freeing e = rw e
+freeing-is p = codes (p .seen .state) .1
 
 -- what an answer says of what was sought
 pub sought-found : (o : Option Page) (p : Page) → Found p ≡ soughtOf o → o ≡ some p

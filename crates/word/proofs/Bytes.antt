@@ -4,8 +4,8 @@ use mathlib.Core.List.{List}
 use Prim.Native.Nat.{ℕ, zero, suc, _+_, _-_, _*_, _/_, _%_, _^_, _<_, _≤_}
 use native.Mathlib.Nat.{add-assoc, add-zero, div-div-eq-div-mul, pow-suc, mul-comm, not-suc-le-zero, le-of-suc-le-suc, zero-lt-suc}
 use native.Mathlib.Omega.{arith}
-use lib.ListN.{getD, take, drop}
-use lib.Seq.{getD-take, getD-drop}
+use lib.ListN.{getD, drop, length-take, length-drop}
+use lib.Seq.{ext-getD, getD-take, getD-drop}
 use Rattle.word.specs.Number.{part, number, le, be}
 
 -- four bytes, written out
@@ -56,6 +56,14 @@ pub part-byte : (s : List ℕ) (at n i : ℕ) → i < n → getD (part s at n) i
 part-byte s at n i h = getD-take n (drop at s) i 0 h ∙ getD-drop at s i 0
 
 module _ (s : List ℕ) (at n k m : ℕ) (fits : k + m ≤ n) where
+  -- a part of a part
+  pub part-part : part (part s at n) k m ≡ part s (at + k) m
+  part-part =
+      ext-getD 0 _ _ (simp (length-take, length-drop) (omega arith)) (λ i g.
+      let b : i < m = omega (arith, simp (length-take, length-drop) at g) in
+      part-byte (part s at n) k m i b ∙ part-byte s at n (k + i) (omega arith)
+      ∙ ap (λ (x : ℕ). getD s x 0) (sym (add-assoc at k i)) ∙ sym (part-byte s (at + k) m i b))
+
   -- a number of a part
   pub le-part : le (part s at n) k m ≡ le s (at + k) m
   unfolding le

@@ -5,8 +5,7 @@ use Rattle.table.specs.declared.Page.{Page}
 use Rattle.table.specs.Table.{activePage, listed}
 use Rattle.table.specs.Sought.{soughtOf, betterAmong}
 use Rattle.table.proofs.Listing.{element, listed-end}
-use Rattle.order.specs.Order.{kept}
-use Rattle.order.specs.Turns.{over}
+use Rattle.order.specs.Order.{newerPage, kept}
 use Rattle.table.proofs.Seeking.{among-more}
 use mathlib.Core.Path.{_≡_, sym, ap, _∙_}
 use Prim.Native.Nat.{ℕ, _+_, _-_, _≤_}
@@ -17,7 +16,7 @@ use Rattle.order.proofs.kept_page.Statement.{statement}
 use Rattle.order.proofs.kept_page.Tie as tie
 
 abbrev Inv-loop : tie.InvT-loop
-Inv-loop t best₀ i₀ best i = (i ≤ t .count) × (best ≡ soughtOf (bestOf over (keep activePage (drop i (listed t)))))
+Inv-loop t best₀ i₀ best i = (i ≤ t .count) × (best ≡ soughtOf (bestOf newerPage (keep activePage (drop i (listed t)))))
 
 abbrev μ-loop : tie.MeasureT-loop
 μ-loop t best₀ i₀ best i = i
@@ -26,7 +25,7 @@ loop-holds : tie.Need-loop-holds Inv-loop μ-loop
 unfolding keep bestOf
 loop-holds c =
     let t = c .args .t1 in
-    (omega arith, sym (ap (λ (xs : List Page). soughtOf (bestOf over (keep activePage xs))) (listed-end (t .pages) (t .count) (c .pre .list) (t .count) (omega arith))))
+    (omega arith, sym (ap (λ (xs : List Page). soughtOf (bestOf newerPage (keep activePage xs))) (listed-end (t .pages) (t .count) (c .pre .list) (t .count) (omega arith))))
 
 loop-again : tie.Need-loop-again Inv-loop μ-loop
 loop-again c =
@@ -36,9 +35,9 @@ loop-again c =
     let e : i - 1 + 1 ≡ i = omega arith in (
       omega arith,
       c .better-of .ensures
-          ∙ ap (betterAmong activePage over _) (l .loop .inv .1 ∙ ap (λ (k : ℕ). soughtOf (bestOf over (keep activePage (drop k (listed t))))) (sym e))
-          ∙ among-more over activePage _ (drop (i - 1 + 1) (listed t))
-          ∙ sym (ap (λ (xs : List Page). soughtOf (bestOf over (keep activePage xs))) (element (t .pages) (t .count) (l .before .pre .list) (i - 1) _ (omega arith))),
+          ∙ ap (betterAmong activePage newerPage _) (l .loop .inv .1 ∙ ap (λ (k : ℕ). soughtOf (bestOf newerPage (keep activePage (drop k (listed t))))) (sym e))
+          ∙ among-more newerPage activePage _ (drop (i - 1 + 1) (listed t))
+          ∙ sym (ap (λ (xs : List Page). soughtOf (bestOf newerPage (keep activePage xs))) (element (t .pages) (t .count) (l .before .pre .list) (i - 1) _ (omega arith))),
     )
 
 returns : tie.Need-returns Inv-loop μ-loop
@@ -46,7 +45,7 @@ unfolding kept
 returns c =
     let l = c .before in
     let e : l .loop .i ≡ 0 = omega arith in
-    l .loop .inv .1 ∙ ap (λ (k : ℕ). soughtOf (bestOf over (keep activePage (drop k (listed (l .before .args .t1)))))) e
+    l .loop .inv .1 ∙ ap (λ (k : ℕ). soughtOf (bestOf newerPage (keep activePage (drop k (listed (l .before .args .t1)))))) e
 
 pub kept-page-spec : {M : Type 1} → statement M
 kept-page-spec =

@@ -47,6 +47,7 @@ use denote.Triple.Table.{entered, cited}
 use denote.Triple.Walked.{says, Stays, stay-none-slice, stay-none, walkOf, goes-none-slice, goes-none, Walks, ends-at, walked, walk-meets}
 use denote.Triple.Clauses.{ensured, lasts}
 use denote.Exit.{yes}
+use Rattle.word.proofs.Local.{local-in, local-out}
 use Rattle.reader.specs.Reader.{stepAt, movedReader}
 use Rattle.reader.specs.declared.ItemReader.{ItemReader}
 use Rattle.reader.specs.declared.Found.{Found}
@@ -57,7 +58,6 @@ use Rattle.reader.proofs.Step as S
 use Rattle.reader.proofs.Step.Laws as S′
 use Rattle.reader.proofs.Found as F
 use Rattle.reader.proofs.Found.Laws as F′
-use Rattle.reader.proofs.Local.{local-in, local-out}
 use Rattle.reader.proofs.ItemReader.next as next
 use Rattle.reader.proofs.ItemReader.next.Symbol as next-def
 use Rattle.reader.proofs.ItemReader.next.Symbol.{name as #reader·next}

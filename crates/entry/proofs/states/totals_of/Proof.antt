@@ -9,7 +9,7 @@ use Rattle.word.specs.Number.{le}
 use Rattle.entry.specs.States.{stateAt, countOf, totalsOf}
 use Rattle.entry.specs.Ones.{masked}
 use Rattle.entry.proofs.Counting.{count-le}
-use Rattle.entry.proofs.Masked.{over}
+use Rattle.entry.proofs.Masked.{pairsBelow}
 use Rattle.entry.proofs.Words.{total}
 use borrow.Author.Needs.{needs}
 use Rattle.entry.proofs.states.totals_of.Statement.{statement}
@@ -19,7 +19,7 @@ use Rattle.entry.proofs.states.totals_of.Tie as tie
 module _ (s : List ℕ) (small : (i : ℕ) → getD s i 0 < 256) (a b c d : ℕ) (ea : a ≡ le s 32 8) (eb : b ≡ le s 40 8) (ec : c ≡ le s 48 8) (ed : d ≡ le s 56 8) where
   abbrev Tally : ℕ → ℕ → Type 0
   Tally g t =
-      t ≡ masked a (over g 0 32) (over 1 0 32) + masked b (over g 0 32) (over 1 0 32) + masked c (over g 0 32) (over 1 0 32) + masked d (over g 0 32) (over 1 0 30)
+      t ≡ masked a (pairsBelow g 0 32) (pairsBelow 1 0 32) + masked b (pairsBelow g 0 32) (pairsBelow 1 0 32) + masked c (pairsBelow g 0 32) (pairsBelow 1 0 32) + masked d (pairsBelow g 0 32) (pairsBelow 1 0 30)
 
   counted : (g : ℕ) → g < 4 → (t : ℕ) → Tally g t → (t ≡ countOf (stateAt s) (3 - g) 126) × (t < 256)
   counted g hg t e =
@@ -28,7 +28,7 @@ module _ (s : List ℕ) (small : (i : ℕ) → getD s i 0 < 256) (a b c d : ℕ)
       (n, omega arith)
 
 cast-written : tie.Need-cast-t10
-unfolding over
+unfolding pairsBelow
 cast-written c =
     let w = c .before .before .before .before in
     let k = w .before .before .before .before in
@@ -40,7 +40,7 @@ cast-written c =
     )
 
 cast-erased : tie.Need-cast-t11
-unfolding over
+unfolding pairsBelow
 cast-erased c =
     let w = c .before .before .before .before in
     let k = w .before .before .before .before in
@@ -52,7 +52,7 @@ cast-erased c =
     )
 
 cast-empty : tie.Need-cast-t12
-unfolding over
+unfolding pairsBelow
 cast-empty c =
     let w = c .before .before .before .before in
     let k = w .before .before .before .before in
@@ -64,7 +64,7 @@ cast-empty c =
     )
 
 cast-illegal : tie.Need-cast-t13
-unfolding over
+unfolding pairsBelow
 cast-illegal c =
     let w = c .before .before .before .before in
     let k = w .before .before .before .before in
@@ -76,7 +76,7 @@ cast-illegal c =
     )
 
 returns : tie.Need-returns
-unfolding totalsOf over
+unfolding totalsOf pairsBelow
 returns c =
     let w = c .before .before .before .before in
     let k = w .before .before .before .before in

@@ -6,8 +6,7 @@ use Rattle.lists.proofs.Search.{best-in}
 use Rattle.table.specs.Table.{listed, itemsIn}
 use Rattle.table.proofs.Seeking.{sought-found, sought-nothing}
 use Rattle.table.proofs.Places.{page-fits}
-use Rattle.finish.specs.Finish.{newest, newestHolds}
-use Rattle.finish.specs.Rounds.{over}
+use Rattle.finish.specs.Finish.{noOlderPage, newest, newestHolds}
 use Rattle.finish.proofs.Alike.{holds-is}
 use borrow.Author.Needs.{needs}
 use Rattle.finish.proofs.newest.newest_holds.Statement.{statement}
@@ -34,7 +33,7 @@ matches-requires c κs =
     let k = c .before .before .before .before .before .before .before in
     let a = k .before .before .before .before .before in
     let l = a .args .image .now in
-    (a .pre .0, a .pre .3, page-fits l l (a .pre .2) refl _ (best-in over (listed (a .args .lists)) _ (found k)))
+    (a .pre .0, a .pre .3, page-fits l l (a .pre .2) refl _ (best-in noOlderPage (listed (a .args .lists)) _ (found k)))
 
 returns-3 : tie.Need-returns-3
 unfolding newestHolds

@@ -6,8 +6,7 @@ use Rattle.table.specs.Table.{listed}
 use Rattle.table.specs.Sought.{soughtOf, betterOf}
 use Rattle.table.proofs.Listing.{element, listed-end}
 use Rattle.table.proofs.Seeking.{best-more}
-use Rattle.finish.specs.Finish.{newest}
-use Rattle.finish.specs.Rounds.{over}
+use Rattle.finish.specs.Finish.{noOlderPage, newest}
 use mathlib.Core.Path.{_≡_, sym, ap, _∙_}
 use Prim.Native.Nat.{ℕ, _+_, _-_, _≤_}
 use native.Mathlib.Omega.{arith}
@@ -17,7 +16,7 @@ use Rattle.finish.proofs.newest.newest_page.Statement.{statement}
 use Rattle.finish.proofs.newest.newest_page.Tie as tie
 
 abbrev Inv-loop : tie.InvT-loop
-Inv-loop t best₀ i₀ best i = (i ≤ t .count) × (best ≡ soughtOf (bestOf over (drop i (listed t))))
+Inv-loop t best₀ i₀ best i = (i ≤ t .count) × (best ≡ soughtOf (bestOf noOlderPage (drop i (listed t))))
 
 abbrev μ-loop : tie.MeasureT-loop
 μ-loop t best₀ i₀ best i = i
@@ -26,7 +25,7 @@ loop-holds : tie.Need-loop-holds Inv-loop μ-loop
 unfolding bestOf
 loop-holds c =
     let t = c .args .t1 in
-    (omega arith, sym (ap (λ (xs : List Page). soughtOf (bestOf over xs)) (listed-end (t .pages) (t .count) (c .pre .list) (t .count) (omega arith))))
+    (omega arith, sym (ap (λ (xs : List Page). soughtOf (bestOf noOlderPage xs)) (listed-end (t .pages) (t .count) (c .pre .list) (t .count) (omega arith))))
 
 loop-again : tie.Need-loop-again Inv-loop μ-loop
 loop-again c =
@@ -36,9 +35,9 @@ loop-again c =
     let e : i - 1 + 1 ≡ i = omega arith in (
       omega arith,
       c .newer-of .ensures
-          ∙ ap (betterOf over _) (l .loop .inv .1 ∙ ap (λ (k : ℕ). soughtOf (bestOf over (drop k (listed t)))) (sym e))
-          ∙ best-more over _ (drop (i - 1 + 1) (listed t))
-          ∙ sym (ap (λ (xs : List Page). soughtOf (bestOf over xs)) (element (t .pages) (t .count) (l .before .pre .list) (i - 1) _ (omega arith))),
+          ∙ ap (betterOf noOlderPage _) (l .loop .inv .1 ∙ ap (λ (k : ℕ). soughtOf (bestOf noOlderPage (drop k (listed t)))) (sym e))
+          ∙ best-more noOlderPage _ (drop (i - 1 + 1) (listed t))
+          ∙ sym (ap (λ (xs : List Page). soughtOf (bestOf noOlderPage xs)) (element (t .pages) (t .count) (l .before .pre .list) (i - 1) _ (omega arith))),
     )
 
 returns : tie.Need-returns Inv-loop μ-loop
@@ -46,7 +45,7 @@ unfolding newest
 returns c =
     let l = c .before in
     let e : l .loop .i ≡ 0 = omega arith in
-    l .loop .inv .1 ∙ ap (λ (k : ℕ). soughtOf (bestOf over (drop k (listed (l .before .args .t1))))) e
+    l .loop .inv .1 ∙ ap (λ (k : ℕ). soughtOf (bestOf noOlderPage (drop k (listed (l .before .args .t1))))) e
 
 pub newest-page-spec : {M : Type 1} → statement M
 newest-page-spec =

@@ -7,6 +7,7 @@ use borrow.Author.Count.{below-more}
 use borrow.Author.Tests.{eqb-true}
 use borrow.Author.Needs.{needs}
 use Rattle.entry.specs.Fields.{chunkSize, indexCount, indexSize}
+use Rattle.lists.specs.Lists.{sumTo}
 use Rattle.lists.proofs.Member.{true≢false}
 use Rattle.found.specs.Found.{versionOf}
 use Rattle.found.specs.Places.{itemAt, Placed}
@@ -14,7 +15,7 @@ use Rattle.found.specs.Ranks.{rankNumber}
 use Rattle.found.proofs.Reading.{byte-here, le-at}
 use Rattle.quick.specs.Names.{chunkName}
 use Rattle.quick.specs.Slots.{rawAt}
-use Rattle.quick.specs.Fits.{HasChunk, sumTo, toldRaw}
+use Rattle.quick.specs.Fits.{HasChunk, toldRaw}
 use Rattle.quick.proofs.tests.index_fits.Statement.{statement}
 use Rattle.quick.proofs.tests.index_fits.Tie as tie
 

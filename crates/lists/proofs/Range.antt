@@ -1,15 +1,11 @@
--- Sums over the sectors of an image, and how they change where a few of them do. Assumes nothing.
+-- Sums over the numbers below a limit, and how they change where a few of the values do. Assumes nothing.
 use mathlib.Core.Path.{_≡_, refl, sym, ap}
 use mathlib.Core.Bool.{Bool, true, false, cond}
 use Prim.Native.Nat.{ℕ, zero, suc, _+_, _≤_, _<_}
 use native.Mathlib.Omega.{arith}
 use lib.Dec.{eqb}
 use borrow.Author.Tests.{ne-eqb, eqb-true, eqb-false}
-
--- the sum of f over the first n sectors
-unfoldable pub sumTo : (ℕ → ℕ) → ℕ → ℕ
-sumTo f zero = 0
-sumTo f (suc n) = sumTo f n + f n
+use Rattle.lists.specs.Lists.{sumTo}
 
 -- a sum goes by its values
 pub sumTo-ext : (f g : ℕ → ℕ) (n : ℕ) → ((u : ℕ) → u < n → f u ≡ g u) → sumTo f n ≡ sumTo g n
