@@ -4,12 +4,11 @@ use mathlib.Core.Bool.{Bool, true, false, cond}
 use mathlib.Core.Option.{Option, none, some}
 use mathlib.Core.List.{List, getLast?}
 use Prim.Native.Nat.{ℕ, _<_}
-use native.Mathlib.Omega.{arith}
 use lib.Dec.{eqb, ltb}
 use Rattle.page.specs.State.{stateOf, isFree}
 use Rattle.flash.specs.Step.{sector}
 use Rattle.answer.specs.declared.Answer.the-variants.{ActiveStands, SequencesSpent, NotReclaimable}
-use Rattle.lists.specs.Lists.{keep, some-of, best, greatest}
+use Rattle.lists.specs.Lists.{keep, some-of, greatest}
 use Rattle.lists.proofs.Member.{_∈_, true≢false}
 use Rattle.lists.proofs.Search.{keep-in, best-in, last-in}
 use Rattle.table.specs.declared.Page.{Page}
