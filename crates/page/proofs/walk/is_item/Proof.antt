@@ -1,12 +1,10 @@
 -- `page::is_item` meets its contract: each test that led to a return decides the definition's. Assumes nothing.
-use mathlib.Core.Path.{_≡_, refl, sym, ap, _∙_}
-use mathlib.Core.Bool.{Bool, true, false, not}
-use Prim.Native.Nat.{ℕ, _+_, _*_, _<_, _≤_}
-use native.Mathlib.Nat.{add-zero}
+use mathlib.Core.Path.{_≡_, sym, ap, _∙_}
+use mathlib.Core.Bool.{true, false}
+use Prim.Native.Nat.{_+_, _*_, _<_, _≤_}
 use native.Mathlib.Omega.{arith}
 use borrow.Author.Tests.{eq-eqb, ne-eqb, le-leb, lt-leb}
 use lib.Dec.{lit<, lit≤}
-use lib.ListN.{getD}
 use Rattle.word.specs.Number.{part}
 use Rattle.word.proofs.Bytes.{part-byte, le-part}
 use Rattle.entry.specs.States.{stateAt}
