@@ -3,7 +3,6 @@
 use oracle::items::{items, Item};
 use oracle::sector::{free, state, ENTRY_BYTES, SECTOR_BYTES};
 
-/// "exactly the items it held before, each once, header and payload byte for byte, and no fewer free sectors"
 pub struct Contents {
     /// The bytes of each item, header and payload; sorted, so that equal lists are equal multisets.
     items: Vec<Vec<u8>>,
@@ -25,12 +24,18 @@ pub fn contents(image: &[u8]) -> Contents {
     Contents { items, free_sectors }
 }
 
+/// What has to be there at the end: "exactly the items that recovery leaves of the uncut store", which are all items
+/// of a settled one, "each once, header and payload byte for byte, and no fewer free sectors".
+pub fn demanded(store: &[u8], recovered: &[u8]) -> Contents {
+    Contents { free_sectors: contents(store).free_sectors, ..contents(recovered) }
+}
+
 impl Contents {
     pub fn items(&self) -> usize {
         self.items.len()
     }
 
-    /// What of the demand's conclusion does not hold after the last recovery.
+    /// What of the conclusion does not hold after the last recovery.
     pub fn fault(&self, after: &Contents) -> Option<String> {
         if after.items.windows(2).any(|pair| pair[0] == pair[1]) {
             return Some("an item is there twice".into());
@@ -40,7 +45,7 @@ impl Contents {
                 one.items.iter().filter(|item| other.items.binary_search(item).is_err()).count()
             };
             let (lost, added) = (lacks(self, after), lacks(after, self));
-            return Some(format!("{lost} items of before are not there, {added} are that were not"));
+            return Some(format!("{lost} items are not there that should be, {added} are that should not"));
         }
         let (before, after) = (self.free_sectors, after.free_sectors);
         (after < before).then(|| format!("{after} free sectors, {before} before"))

@@ -5,10 +5,12 @@ use std::collections::{HashSet, VecDeque};
 use std::hash::{BuildHasherDefault, Hasher};
 use std::rc::Rc;
 
+use oracle::recover::recover;
 use oracle::sector::SECTOR_BYTES;
+use oracle::steps::Outcome;
 
 use crate::calls::{Answer, Call, Calls, ENDED, STOPPED};
-use crate::contents::{contents, Contents};
+use crate::contents::{contents, demanded, Contents};
 
 /// No list is as long: a page has 1,008 words of entries. A call that has not ended by then never ends.
 const TOO_LONG: u64 = 20_000;
@@ -60,8 +62,9 @@ pub struct Figures {
     pub images: Vec<u64>,
     /// Images that a recovery left at its end.
     pub ends: u64,
-    /// Items of the stores.
+    /// Items of the stores, and those that recovery leaves of them.
     pub items: u64,
+    pub left: u64,
 }
 
 impl Figures {
@@ -70,6 +73,7 @@ impl Figures {
         self.recoveries += other.recoveries;
         self.ends += other.ends;
         self.items += other.items;
+        self.left += other.left;
         for (cuts, count) in other.images.iter().enumerate() {
             self.count_images(cuts + 1, *count);
         }
@@ -107,7 +111,7 @@ fn is_one_word(before: &[u8], after: &[u8]) -> bool {
 
 struct Trial<'a> {
     calls: &'a mut dyn Calls,
-    before: Contents,
+    demanded: Contents,
     met: Images,
     ends: Images,
     waiting: VecDeque<Reached>,
@@ -169,21 +173,23 @@ impl Trial<'_> {
             Some(format!("{call:?}: without a limit {answer:?}, with just enough {exact:?}"))
         } else if call == Call::Recover && self.ends.insert(end.into()) {
             self.figures.ends += 1;
-            self.before.fault(&contents(end))
+            self.demanded.fault(&contents(end))
         } else {
             None
         };
         fault.map_or(Ok(()), |what| Err(Failure { what, cuts, image }))
     }
 
-    /// The premise, as the calls under trial see it.
-    fn leaves_unchanged(&mut self, store: &[u8]) -> Result<(), Failure> {
+    /// The calls under trial have to recover the store itself as the model does: a settled one by no step.
+    fn recovers_as(&mut self, model: &Outcome, store: &[u8]) -> Result<(), Failure> {
         let mut image = store.to_vec();
         let answer = self.make(Call::Recover, &mut image, u64::MAX);
-        if answer == (Answer { number: ENDED, steps: 0 }) && image == store {
+        let wanted = Answer { number: model.result, steps: model.steps as u64 };
+        if answer == wanted && image == model.image {
             return Ok(());
         }
-        let what = format!("recovery of the store itself: {answer:?}, and by the model no step");
+        let alike = if image == model.image { "the same image" } else { "another image" };
+        let what = format!("recovery of the store itself: {answer:?}, by the model {wanted:?} and {alike}");
         Err(Failure { what, cuts: Vec::new(), image })
     }
 }
@@ -203,11 +209,13 @@ fn fault_of_cut(answer: Answer, allowance: u64, last: &[u8], image: &[u8]) -> Op
 
 /// Tries one store within the premises.
 pub fn try_store(calls: &mut dyn Calls, store: &[u8]) -> Result<Figures, Failure> {
-    let before = contents(store);
-    let figures = Figures { items: before.items() as u64, ..Figures::default() };
+    let model = recover(store, u64::MAX, &mut [None; 16]);
+    let demanded = demanded(store, &model.image);
+    let (items, left) = (contents(store).items() as u64, demanded.items() as u64);
+    let figures = Figures { items, left, ..Figures::default() };
     let (met, ends, waiting) = (Images::default(), Images::default(), VecDeque::new());
-    let mut trial = Trial { calls, before, met, ends, waiting, figures };
-    trial.leaves_unchanged(store)?;
+    let mut trial = Trial { calls, demanded, met, ends, waiting, figures };
+    trial.recovers_as(&model, store)?;
     let start = Reached { image: store.into(), cuts: Vec::new() };
     trial.cut_everywhere(Call::Reclaim, &start)?;
     while let Some(reached) = trial.waiting.pop_front() {
