@@ -11,10 +11,12 @@ use text::put_text;
 ghost use Prim.Native.Nat.{_≤_};
 ghost use lib.ListN.{length};
 ghost use Rattle.io.specs.Counts.{Counts};
+ghost use Rattle.listing.specs.Text.{Put};
+ghost use Rattle.listing.specs.Listing.{stateWord, counts, pageText, line, head, Listed};
 
 fn put_state(out: &mut [u8], at: usize, state: PageState) -> usize
     requires { ⌜ at ≤ length (now out) ⌝ }
-    ensures { λ r. ⌜ r ≤ length (now (out .exit)) ⌝ }
+    ensures { λ to. ⌜ Put (now (out .entry)) at (stateWord state) (now (out .exit)) to ⌝ }
 {
     match state {
         PageState::Blank => put_text(out, at, b"blank"),
@@ -28,7 +30,7 @@ fn put_state(out: &mut [u8], at: usize, state: PageState) -> usize
 // What follows the state of a page: a free sector has nothing to tell.
 fn put_counts(out: &mut [u8], at: usize, r: PageRecord) -> usize
     requires { ⌜ at ≤ length (now out) ⌝ }
-    ensures { λ r. ⌜ r ≤ length (now (out .exit)) ⌝ }
+    ensures { λ to. ⌜ Put (now (out .entry)) at (counts r) (now (out .exit)) to ⌝ }
 {
     let written = put_field(out, at, b"written", r.written as u64);
     let erased = put_field(out, written, b"erased", r.erased as u64);
@@ -38,7 +40,7 @@ fn put_counts(out: &mut [u8], at: usize, r: PageRecord) -> usize
 
 fn put_page(out: &mut [u8], at: usize, r: PageRecord) -> usize
     requires { ⌜ at ≤ length (now out) ⌝ }
-    ensures { λ r. ⌜ r ≤ length (now (out .exit)) ⌝ }
+    ensures { λ to. ⌜ Put (now (out .entry)) at (pageText r) (now (out .exit)) to ⌝ }
 {
     let space = put_byte(out, at, b' ');
     let sequence = put_number(out, space, r.sequence as u64);
@@ -48,7 +50,7 @@ fn put_page(out: &mut [u8], at: usize, r: PageRecord) -> usize
 // One line: the sector's number, its state and, of a page, the rest of its record.
 fn put_line(out: &mut [u8], at: usize, n: usize, r: PageRecord) -> usize
     requires { ⌜ at ≤ length (now out) ⌝ }
-    ensures { λ r. ⌜ r ≤ length (now (out .exit)) ⌝ }
+    ensures { λ to. ⌜ Put (now (out .entry)) at (line n r) (now (out .exit)) to ⌝ }
 {
     let number = put_number(out, at, n as u64);
     let space = put_byte(out, number, b' ');
@@ -62,7 +64,7 @@ fn put_line(out: &mut [u8], at: usize, n: usize, r: PageRecord) -> usize
 }
 
 fn put_head(out: &mut [u8], sectors: u64, answer: Answer) -> usize
-    ensures { λ r. ⌜ r ≤ length (now (out .exit)) ⌝ }
+    ensures { λ r. ⌜ Put (now (out .entry)) 0 (head sectors answer) (now (out .exit)) r ⌝ }
 {
     let word = put_text(out, 0, b"sectors ");
     let number = put_number(out, word, sectors);
@@ -75,6 +77,7 @@ fn put_head(out: &mut [u8], sectors: u64, answer: Answer) -> usize
 // image's length, of which `image` may be only a part where it is longer than any image that is recovered.
 pub fn list_image(image: &mut [u8], bytes: u64, out: &mut [u8]) -> usize
     ensures { λ r. ⌜ Counts r (now (out .exit)) ⌝ }
+    ensures { λ r. ⌜ Listed (now (image .entry)) bytes (now (image .exit)) (now (out .entry)) (now (out .exit)) r ⌝ }
 {
     let made = recover::recover_image(image, 16, u64::MAX);
     let answer = made.answer;

@@ -1,0 +1,85 @@
+-- One line more, and the lines of what recovery answered. Assumes nothing.
+use mathlib.Core.Path.{_≡_, refl, sym, ap, _∙_}
+use mathlib.Core.Bool.{Bool, true, false, cond}
+use mathlib.Core.List.{List, [], _∷_, _++_, append-assoc, append-nil}
+use Prim.Native.Nat.{ℕ, zero, suc, _+_, _/_, _≤_, _<_}
+use native.Mathlib.Omega.{arith}
+use lib.ListN.{length, take, getD, length-append, length-take}
+use lib.Seq.{take-suc, length-take-le}
+use Rattle.page.specs.declared.«record».PageRecord.{PageRecord}
+use Rattle.page.specs.State.{isFree}
+use Rattle.page.specs.Record.{recordOf}
+use Rattle.flash.specs.Step.{sector}
+use Rattle.table.specs.Table.{sectorsOf}
+use Rattle.answer.specs.declared.Answer.{Answer}
+use Rattle.answer.specs.declared.Answer.the-variants.{Done, NotSectors, FewRecords, ActiveStands, AllWritten, NoFreeSector, SequencesSpent, Stopped, NotReclaimable}
+use Rattle.records.specs.declared.Rows.{Rows}
+use Rattle.records.specs.Records.{recordsTo, noRows}
+use Rattle.recover.specs.declared.Recovered.{Recovered}
+use Rattle.recover.specs.Promise.{rowsFor, Recovers}
+use Rattle.listing.specs.Text.{space, newline, decimal}
+use Rattle.listing.specs.Listing.{stateWord, pageText, line, lines, head, linesFor, lent, allowance, answered, listing}
+
+-- a sector's line, free or not
+module _ (n : ℕ) (r : PageRecord) where
+  abbrev lineBy : Bool → List ℕ
+  lineBy free = decimal n ++ (space ++ (stateWord (r .state) ++ (cond free [] (pageText r) ++ newline)))
+
+  pub line-free : isFree (r .state) ≡ true → decimal n ++ (space ++ (stateWord (r .state) ++ newline)) ≡ line n r
+  unfolding line
+  line-free e = ap lineBy (sym e)
+
+  pub line-page : isFree (r .state) ≡ false → decimal n ++ (space ++ (stateWord (r .state) ++ (pageText r ++ newline))) ≡ line n r
+  unfolding line
+  line-page e = ap lineBy (sym e)
+
+lines-behind : (n : ℕ) (rs : List PageRecord) (r : PageRecord) → lines n (rs ++ (r ∷ [])) ≡ lines n rs ++ line (n + length rs) r
+unfolding lines
+lines-behind n [] r = append-nil (line n r) ∙ ap (λ (k : ℕ). line k r) (omega arith)
+lines-behind n (q ∷ rs) r =
+    ap (λ (l : List ℕ). line n q ++ l) (lines-behind (suc n) rs r ∙ ap (λ (k : ℕ). lines (suc n) rs ++ line k r) (omega arith)) ∙
+    sym (append-assoc (line n q) (lines (suc n) rs) (line (n + suc (length rs)) r))
+
+pub lines-more : (rs : List PageRecord) (n : ℕ) (d : PageRecord) → n < length rs → lines 0 (take (suc n) rs) ≡ lines 0 (take n rs) ++ line n (getD rs n d)
+lines-more rs n d h =
+    ap (lines 0) (take-suc rs n d h) ∙ lines-behind 0 (take n rs) (getD rs n d) ∙
+    ap (λ (k : ℕ). lines 0 (take n rs) ++ line k (getD rs n d)) (omega (arith, length-take-le n rs (omega arith)))
+
+length-records : (l : List ℕ) (n : ℕ) → length (recordsTo l n) ≡ n
+unfolding recordsTo
+length-records l zero = refl
+length-records l (suc n) = omega (arith, length-append (recordsTo l n) (recordOf (sector n l) ∷ []), length-records l n)
+
+-- the rows that recovery hands out are the records that are listed: none where it is refused or stopped
+module _ (m : List ℕ) (t : Rows) where
+  abbrev There : List ℕ → Type 0
+  There s = (t .count ≤ length (t .rows)) × (lines 0 (take (t .count) (t .rows)) ≡ s)
+
+  none : t ≡ noRows → There []
+  unfolding lines
+  none e = (omega (arith, ap (λ (u : Rows). u .count) e), ap (λ (u : Rows). lines 0 (take (u .count) (u .rows))) e)
+
+  rows-there : (a : Answer) → rowsFor a m t → There (linesFor a m)
+  unfolding linesFor
+  rows-there (Done k) e = (
+    omega (arith, length-take (sectorsOf m) (t .rows), ap length (e .rows), length-records m (sectorsOf m), e .count),
+    ap (λ (n : ℕ). lines 0 (take n (t .rows))) (e .count) ∙ ap (lines 0) (e .rows),
+  )
+  rows-there NotSectors e = none e
+  rows-there FewRecords e = none e
+  rows-there ActiveStands e = none e
+  rows-there AllWritten e = none e
+  rows-there NoFreeSector e = none e
+  rows-there SequencesSpent e = none e
+  rows-there (Stopped x k) e = none e
+  rows-there NotReclaimable e = none e
+
+module _ (l m : List ℕ) (r : Recovered) (p : Recovers l lent allowance m r) where
+  pub rows-enough : r .rows .count ≤ length (r .rows .rows)
+  rows-enough = rows-there m (r .rows) (r .answer) (p .rows) .0
+
+  pub listing-is : (bytes : ℕ) → head (bytes / 4096) (r .answer) ++ lines 0 (take (r .rows .count) (r .rows .rows)) ≡ listing l bytes
+  unfolding listing
+  listing-is bytes =
+      ap (λ (s : List ℕ). head (bytes / 4096) (r .answer) ++ s) (rows-there m (r .rows) (r .answer) (p .rows) .1) ∙
+      ap (λ (a : Answer). head (bytes / 4096) a ++ linesFor a m) (p .answer) ∙ ap (λ (i : List ℕ). head (bytes / 4096) (answered l) ++ linesFor (answered l) i) (p .image)

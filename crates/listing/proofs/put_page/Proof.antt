@@ -1,0 +1,25 @@
+-- `listing::put_page` meets its contract: the sequence, and the counts behind it. Assumes nothing.
+use borrow.Author.Needs.{needs}
+use Rattle.listing.proofs.Putting.{put-both}
+use Rattle.listing.specs.Listing.{pageText}
+use Rattle.listing.proofs.put_page.Statement.{statement}
+use Rattle.listing.proofs.put_page.Tie as tie
+
+returns : tie.Need-returns
+unfolding pageText
+returns c =
+    let counted = c .before .before in
+    let sequence = counted .before .before .before .before in
+    let gap = sequence .before .before .before .before .before in
+    put-both (gap .put-byte .ensures) (put-both (sequence .put-number .ensures) (counted .put-counts .ensures))
+
+pub put-page-spec : {M : Type 1} → statement M
+put-page-spec =
+    tie.close
+    (tie.spec
+    (λ c κs. search needs)
+    (λ c. search needs)
+    (λ c κs. search needs)
+    (λ c κs. search needs)
+    (λ c. search needs)
+    returns)

@@ -1,0 +1,87 @@
+-- Document 01, the listing program: its text, of the image l that was given and of its length. Read so (R40): numbers are decimal, every line ends in a
+-- newline, the last too; and records enough are lent. Assumes nothing.
+use mathlib.Core.Path.{_≡_}
+use mathlib.Core.Bool.{cond}
+use mathlib.Core.List.{List, [], _∷_, _++_}
+use Prim.Native.Nat.{ℕ, suc, _/_}
+use lib.ListN.{length, take, drop}
+use Rattle.flash.specs.Step.{run}
+use Rattle.page.specs.declared.state.PageState.{PageState}
+use Rattle.page.specs.declared.state.PageState.the-variants.{Blank, Corrupt, Active, Full, Freeing}
+use Rattle.page.specs.declared.«record».PageRecord.{PageRecord}
+use Rattle.page.specs.State.{isFree}
+use Rattle.table.specs.Table.{sectorsOf}
+use Rattle.answer.specs.declared.Answer.{Answer}
+use Rattle.answer.specs.declared.Answer.the-variants.{Done, NotSectors, FewRecords, ActiveStands, AllWritten, NoFreeSector, SequencesSpent, Stopped, NotReclaimable}
+use Rattle.answer.specs.Answer.{numberOf, stepsOf}
+use Rattle.records.specs.Records.{recordsTo}
+use Rattle.recover.specs.Promise.{recoverAnswer, calling}
+use Rattle.listing.specs.Text.{word, space, newline, decimal, field}
+
+-- "0 blank", "1 full 7 ..": "Other pages read `active` or `freeing` in the place of `full`, a Corrupt sector `corrupt` alone"
+abbrev pub stateWord : PageState → List ℕ
+stateWord Blank = word "blank"
+stateWord Corrupt = word "corrupt"
+stateWord Active = word "active"
+stateWord Full = word "full"
+stateWord Freeing = word "freeing"
+
+-- " written 3 erased 2 empty 121 illegal 0"
+unfoldable pub counts : PageRecord → List ℕ
+counts r =
+    field (word "written") (r .written) ++
+    (field (word "erased") (r .erased) ++ (field (word "empty") (r .empty) ++ field (word "illegal") (r .illegal)))
+
+-- " 7 written 3 ..": the sequence stands without a name
+unfoldable pub pageText : PageRecord → List ℕ
+pageText r = space ++ (decimal (r .sequence) ++ counts r)
+
+-- "0 blank", "1 full 7 written 3 ..": sector n, its state and, of a page, the rest of its record
+unfoldable pub line : ℕ → PageRecord → List ℕ
+line n r = decimal n ++ (space ++ (stateWord (r .state) ++ (cond (isFree (r .state)) [] (pageText r) ++ newline)))
+
+-- the lines of the records rs, the first of which is of sector n
+unfoldable pub lines : ℕ → List PageRecord → List ℕ
+lines n [] = []
+lines n (r ∷ rs) = line n r ++ lines (suc n) rs
+
+-- "sectors 2 result 0 steps 0"
+unfoldable pub head : ℕ → Answer → List ℕ
+head sectors a =
+    word "sectors " ++ (decimal sectors ++ (field (word "result") (numberOf a) ++ (field (word "steps") (stepsOf a) ++ newline)))
+
+-- "then lists the records": of the image m that recovery left; "a refused image gets the first line only"
+unfoldable pub linesFor : Answer → List ℕ → List ℕ
+linesFor (Done k) m = lines 0 (recordsTo m (sectorsOf m))
+linesFor NotSectors m = []
+linesFor FewRecords m = []
+linesFor ActiveStands m = []
+linesFor AllWritten m = []
+linesFor NoFreeSector m = []
+linesFor SequencesSpent m = []
+linesFor (Stopped x k) m = []
+linesFor NotReclaimable m = []
+
+-- "an allowance that no list reaches"; the records of 16 sectors, the most that an image has
+abbrev pub allowance : ℕ
+allowance = 0xFFFF_FFFF_FFFF_FFFF
+
+abbrev pub lent : ℕ
+lent = 16
+
+-- "recovers its image"
+abbrev pub recovered : List ℕ → List ℕ
+recovered l = run (take allowance (calling l lent)) l
+
+abbrev pub answered : List ℕ → Answer
+answered l = recoverAnswer l lent allowance
+
+-- "`sectors` is the length over 4,096 rounded down"
+unfoldable pub listing : List ℕ → ℕ → List ℕ
+listing l bytes = head (bytes / 4096) (answered l) ++ linesFor (answered l) (recovered l)
+
+-- of the image l, which became m, the listing went into the bytes xs, which became ys: the first r of them, and what has no room is left out
+pub record Listed (l : List ℕ) (bytes : ℕ) (m xs ys : List ℕ) (r : ℕ) : Type 0 where
+  pub image : m ≡ recovered l
+  pub text : take r ys ≡ take (length xs) (listing l bytes)
+  pub rest : drop r ys ≡ drop r xs
