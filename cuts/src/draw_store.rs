@@ -101,7 +101,7 @@ impl Page {
 /// store, where a call takes longer.
 fn draw_limit(random: &mut Random, kind: Kind) -> usize {
     match random.below(48) {
-        0..=6 if kind == Kind::Unsettled => 40,
+        0..=6 if kind == Kind::Unsettled => 32,
         0 => ENTRIES,
         1..=6 => 40 + random.below(40),
         7..=24 => 16 + random.below(24),
