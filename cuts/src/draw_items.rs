@@ -8,6 +8,9 @@ use oracle::random::Random;
 use oracle::sector::ENTRY_BYTES;
 use oracle::writing::{chunk_data, index_data, key_of, Fields};
 
+/// All but 0, in which no blob part may be.
+pub const NAMESPACES: [u8; 5] = [1, 1, 2, 10, 255];
+
 /// The names that were given.
 #[derive(Default)]
 pub struct Names {
@@ -27,7 +30,7 @@ fn key_of_number(number: usize) -> Key {
 
 impl Names {
     /// A name that no item has; the number of names to choose from grows, so that there is one.
-    fn give(&mut self, random: &mut Random, namespaces: &[u8]) -> (u8, Key) {
+    pub fn give(&mut self, random: &mut Random, namespaces: &[u8]) -> (u8, Key) {
         loop {
             let namespace = random.choose(namespaces);
             let name = (namespace, key_of_number(random.below(8 + 2 * self.given.len())));
@@ -38,7 +41,7 @@ impl Names {
     }
 }
 
-fn draw_span(random: &mut Random, room: usize) -> u8 {
+pub fn draw_span(random: &mut Random, room: usize) -> u8 {
     let span = match random.below(16) {
         0 => room,
         1 | 2 => 1 + random.below(room),
@@ -69,6 +72,10 @@ fn piece_of(random: &mut Random, fields: Fields) -> Piece {
     Piece { header: fields.header(), payload: draw_payload(random, &fields) }
 }
 
+pub fn pieces_of(random: &mut Random, group: Vec<Fields>) -> Vec<Piece> {
+    group.into_iter().map(|fields| piece_of(random, fields)).collect()
+}
+
 fn draw_plain(random: &mut Random, name: (u8, Key), room: usize) -> Fields {
     let (namespace, key) = name;
     let chunk_index = if random.once_in(6) { random.byte() } else { 0xFF };
@@ -91,7 +98,7 @@ fn draw_namespace_0(random: &mut Random, names: &mut Names, room: usize) -> Vec<
 }
 
 /// The chunks of a version and the index that fits them.
-fn draw_blob(random: &mut Random, name: (u8, Key), room: usize) -> Vec<Fields> {
+pub fn draw_blob(random: &mut Random, name: (u8, Key), room: usize) -> Vec<Fields> {
     let (namespace, key) = name;
     let start_byte = random.choose(&[0, 0, 0x80, 0x80, 1, 0x7F, 0x81, 0xFF]);
     let start = start_byte & 0x80;
@@ -126,7 +133,6 @@ pub fn draw_plain_of(random: &mut Random, names: &mut Names, entries: usize) -> 
 
 /// One or more items that belong together, none of more entries than `room`.
 pub fn draw_group(random: &mut Random, names: &mut Names, room: usize) -> Vec<Piece> {
-    const NAMESPACES: [u8; 5] = [1, 1, 2, 10, 255];
     let group = match random.below(8) {
         0 => draw_namespace_0(random, names, room),
         1..=3 => {
@@ -138,5 +144,5 @@ pub fn draw_group(random: &mut Random, names: &mut Names, room: usize) -> Vec<Pi
             vec![draw_plain(random, name, room)]
         }
     };
-    group.into_iter().map(|fields| piece_of(random, fields)).collect()
+    pieces_of(random, group)
 }

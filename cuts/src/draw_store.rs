@@ -1,5 +1,5 @@
 //! Draws stores that mostly lie within the premises: Full pages of distinct sequences, names that are given once,
-//! sound blobs, a free sector.
+//! sound blobs, in unsettled stores unsound ones too, a free sector.
 
 use oracle::draw_page::{draw_corrupt, draw_draft};
 use oracle::draw_pieces::Piece;
@@ -8,11 +8,14 @@ use oracle::sector::{EntryState, State, ENTRIES};
 use oracle::writing::{blank_sector, mend_crc, set_entry, set_entry_state};
 
 use crate::draw_items::{draw_group, draw_plain_of, Names};
+use crate::draw_unsound::draw_unsound;
+use crate::kind::Kind;
 
 const STATES: [EntryState; 4] =
     [EntryState::Erased, EntryState::Illegal, EntryState::Written, EntryState::Empty];
 
 /// What may be odd about a store's pages: each in half of the stores or fewer, so that they also come alone.
+#[derive(Default)]
 struct Habits {
     /// Entries between the items that no item uses.
     gaps: bool,
@@ -20,6 +23,8 @@ struct Habits {
     torn: bool,
     /// Written entries that are no items.
     unreadable: bool,
+    /// Blobs of which recovery has something to erase: in each unsettled store.
+    unsound: bool,
 }
 
 /// A page under way: pieces are laid from the next entry on, up to the limit.
@@ -35,6 +40,15 @@ impl Page {
         let end = ENTRIES.min(self.next + count);
         (self.next..end).for_each(|entry| set_entry_state(&mut self.sector, entry, state));
         self.next = end;
+    }
+
+    /// Leaves entries out before the first piece, so that on small pages too an item lies over two state words.
+    fn begin_late(&mut self, random: &mut Random, state: EntryState) {
+        if self.limit > 0 && !random.once_in(3) {
+            let count = 6 + random.below(10);
+            self.leave(count, state);
+            self.limit = ENTRIES.min(self.limit + count);
+        }
     }
 
     fn has_room(&self, entries: usize) -> bool {
@@ -83,9 +97,11 @@ impl Page {
     }
 }
 
-/// Mostly small, since the calls go with the square of the entries that are copied.
-fn draw_limit(random: &mut Random) -> usize {
+/// Mostly small, since the calls go with the square of the entries that are copied. None is large in an unsettled
+/// store, where a call takes longer.
+fn draw_limit(random: &mut Random, kind: Kind) -> usize {
     match random.below(48) {
+        0..=6 if kind == Kind::Unsettled => 32,
         0 => ENTRIES,
         1..=6 => 40 + random.below(40),
         7..=24 => 16 + random.below(24),
@@ -159,9 +175,12 @@ fn lay_items(random: &mut Random, habits: &Habits, names: &mut Names, pages: &mu
         if room == 0 || refused == 4 {
             return;
         }
-        let group = match habits.unreadable && random.once_in(5) {
-            true => draw_unreadable(random, names),
-            false => draw_group(random, names, room),
+        let group = if habits.unreadable && random.once_in(5) {
+            draw_unreadable(random, names)
+        } else if habits.unsound && random.once_in(2) {
+            draw_unsound(random, names, room)
+        } else {
+            draw_group(random, names, room)
         };
         if !lay_group(random, habits, pages, &group) {
             refused += 1;
@@ -175,7 +194,7 @@ fn fill_up(random: &mut Random, names: &mut Names, pages: &mut [Page]) {
     for page in pages.iter_mut().filter(|page| page.limit > 0 && page.next < ENTRIES) {
         let header = page.next;
         let piece = draw_plain_of(random, names, ENTRIES - header);
-        page.lay(random, &Habits { gaps: false, torn: false, unreadable: false }, &piece);
+        page.lay(random, &Habits::default(), &piece);
         page.tear(random, header);
     }
 }
@@ -192,18 +211,23 @@ fn draw_page(random: &mut Random, sequence: u32, limit: usize) -> Page {
     page
 }
 
-fn draw_habits(random: &mut Random) -> Habits {
-    Habits { gaps: random.once_in(2), torn: random.once_in(2), unreadable: random.once_in(3) }
+fn draw_habits(random: &mut Random, kind: Kind) -> Habits {
+    let (gaps, torn, unreadable) = (random.once_in(2), random.once_in(2), random.once_in(3));
+    Habits { gaps, torn, unreadable, unsound: kind == Kind::Unsettled }
 }
 
-fn draw_pages(random: &mut Random, count: usize) -> Vec<Page> {
-    let limit = draw_limit(random);
+fn draw_pages(random: &mut Random, kind: Kind, count: usize) -> Vec<Page> {
+    let limit = draw_limit(random, kind);
     let sequences = draw_sequences(random, count);
     let mut pages: Vec<Page> =
         sequences.into_iter().map(|sequence| draw_page(random, sequence, limit)).collect();
-    let mut habits = draw_habits(random);
+    let mut habits = draw_habits(random, kind);
+    if habits.unsound {
+        let state = random.choose(&STATES);
+        pages.iter_mut().for_each(|page| page.begin_late(random, state));
+    }
     let mut names = Names::default();
-    let to_the_end = random.once_in(20);
+    let to_the_end = random.once_in(if kind == Kind::Settled { 20 } else { 60 });
     if to_the_end {
         habits = Habits { gaps: false, unreadable: false, ..habits };
     }
@@ -224,11 +248,11 @@ fn draw_free(random: &mut Random) -> Vec<u8> {
     draw_corrupt(random, sequence)
 }
 
-pub fn draw_store(random: &mut Random) -> Vec<u8> {
+pub fn draw_store(random: &mut Random, kind: Kind) -> Vec<u8> {
     let sectors = draw_sector_count(random);
     let free = if random.once_in(2) { 1 } else { 1 + random.below(3.min(sectors - 1)) };
     let mut store: Vec<Vec<u8>> =
-        draw_pages(random, sectors - free).into_iter().map(|page| page.sector).collect();
+        draw_pages(random, kind, sectors - free).into_iter().map(|page| page.sector).collect();
     (0..free).for_each(|_| store.push(draw_free(random)));
     random.shuffle(&mut store);
     store.concat()

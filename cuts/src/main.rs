@@ -1,11 +1,14 @@
-//! Demand 3 run by brute force: on generated stores within its premises, reclaim and recovery cut at every step.
+//! Demand 3 and its general form run by brute force: on generated stores within their premises, reclaim and recovery
+//! cut at every step.
 //! README.md says how it is used.
 
 mod calls;
 mod contents;
 mod draw_items;
 mod draw_store;
+mod draw_unsound;
 mod explore;
+mod kind;
 mod oddities;
 mod premises;
 #[cfg(with_library)]
@@ -13,26 +16,25 @@ mod proved;
 mod stand_ins;
 #[cfg(test)]
 mod tests;
+mod unsound;
 
 use std::collections::BTreeMap;
 use std::error::Error;
 use std::fs;
 use std::process::ExitCode;
 
-use oracle::random::Random;
-
 use calls::Calls;
 use draw_store::draw_store;
 use explore::{try_store, Failure, Figures};
+use kind::Kind;
 use oddities::Oddities;
 use premises::first_failing;
 
 /// Stores between two lines on standard error that say how far the run is.
 const PROGRESS: u64 = 20;
 
-/// A store depends on the seed and its number alone.
-fn store_of(seed: u64, number: u64) -> Vec<u8> {
-    draw_store(&mut Random::of_case(seed, number))
+fn store_of(kind: Kind, seed: u64, number: u64) -> Vec<u8> {
+    draw_store(&mut kind.random(seed, number), kind)
 }
 
 fn calls_of(name: &str) -> Result<Box<dyn Calls>, Box<dyn Error>> {
@@ -68,25 +70,30 @@ fn cuts_as_text(cuts: &[u64]) -> String {
 }
 
 /// Prints a failure and writes what it leaves, so that it can be looked at.
-fn report(failure: &Failure, seed: u64, number: u64) -> std::io::Result<()> {
+fn report(failure: &Failure, kind: Kind, seed: u64, number: u64) -> std::io::Result<()> {
+    let name = kind.name();
     println!("FAILURE: {}", failure.what);
-    println!("seed {seed}, store {number}, steps made: {}", cuts_as_text(&failure.cuts));
-    let (store, image) = (format!("{seed}-{number}.store.img"), format!("{seed}-{number}.failure.img"));
-    fs::write(&store, store_of(seed, number))?;
+    println!("seed {seed}, {name} store {number}, steps made: {}", cuts_as_text(&failure.cuts));
+    let file = |what: &str| format!("{seed}-{name}-{number}.{what}.img");
+    let (store, image) = (file("store"), file("failure"));
+    fs::write(&store, store_of(kind, seed, number))?;
     fs::write(&image, &failure.image)?;
     println!("the store is written to {store}, the image after the last call to {image}");
     Ok(())
 }
 
-/// Tries the stores in turn. The answer: what was counted, or the number of the store that fails.
-fn try_stores(calls: &mut dyn Calls, stores: u64, seed: u64) -> Result<(Run, Oddities), (u64, Failure)> {
+/// What was counted, or the number of the store that fails.
+type Tried = Result<(Run, Oddities), (u64, Failure)>;
+
+/// Tries so many stores of a kind in turn.
+fn try_stores(calls: &mut dyn Calls, kind: Kind, stores: u64, seed: u64) -> Tried {
     let mut run = Run::default();
     let mut oddities = Oddities::none();
     while run.tried < stores {
         let number = run.drawn;
-        let store = store_of(seed, number);
+        let store = store_of(kind, seed, number);
         run.drawn += 1;
-        if let Some(premise) = first_failing(&store) {
+        if let Some(premise) = first_failing(kind, &store) {
             *run.thrown_away.entry(premise).or_default() += 1;
             continue;
         }
@@ -94,18 +101,21 @@ fn try_stores(calls: &mut dyn Calls, stores: u64, seed: u64) -> Result<(Run, Odd
         oddities.count(&store);
         run.tried += 1;
         if run.tried % PROGRESS == 0 {
-            eprintln!("{} stores, {} calls of recovery", run.tried, run.figures.recoveries);
+            let (name, recoveries) = (kind.name(), run.figures.recoveries);
+            eprintln!("{} {name} stores, {recoveries} calls of recovery", run.tried);
         }
     }
     Ok((run, oddities))
 }
 
-fn print(run: &Run, oddities: &Oddities, seed: u64) {
+fn print(run: &Run, oddities: &Oddities, kind: Kind, seed: u64) {
     let Run { tried, drawn, thrown_away, figures } = run;
-    println!("seed {seed}: {tried} stores with {} items; {drawn} were drawn", figures.items);
+    let (name, items, left) = (kind.name(), figures.items, figures.left);
+    println!("seed {seed}: {tried} {name} stores; {drawn} were drawn");
     for (premise, count) in thrown_away {
         println!("  {count} thrown away: not '{premise}'");
     }
+    println!("items: {items}, of which recovery leaves {left}");
     println!("calls: {} of reclaim, {} of recovery", figures.reclaims, figures.recoveries);
     println!("images reached: {}", figures.images.iter().sum::<u64>());
     for (recoveries, count) in figures.images.iter().enumerate() {
@@ -115,7 +125,8 @@ fn print(run: &Run, oddities: &Oddities, seed: u64) {
     println!();
     oddities.print();
     println!();
-    println!("0 failures");
+    println!("0 failures of {name} stores");
+    println!();
 }
 
 fn run(arguments: Vec<String>) -> Result<bool, Box<dyn Error>> {
@@ -126,14 +137,18 @@ fn run(arguments: Vec<String>) -> Result<bool, Box<dyn Error>> {
         _ => return Err("cuts STORES SEED [CALLS]".into()),
     };
     let (stores, seed) = (stores.parse()?, seed.parse()?);
-    match try_stores(&mut *calls_of(name)?, stores, seed) {
-        Ok((run, oddities)) => print(&run, &oddities, seed),
-        Err((number, failure)) => {
-            report(&failure, seed, number)?;
-            return Ok(false);
+    let mut calls = calls_of(name)?;
+    let mut passed = true;
+    for kind in Kind::ALL {
+        match try_stores(&mut *calls, kind, stores, seed) {
+            Ok((run, oddities)) => print(&run, &oddities, kind, seed),
+            Err((number, failure)) => {
+                report(&failure, kind, seed, number)?;
+                passed = false;
+            }
         }
     }
-    Ok(true)
+    Ok(passed)
 }
 
 fn main() -> ExitCode {

@@ -1,12 +1,13 @@
 //! The model as a stand-in for the library, and mutants of it: slips that the check has to see.
 
-use oracle::blobs::blobs;
+use oracle::blobs::{blobs, versions};
 use oracle::finish::is_copy;
 use oracle::items::items;
 use oracle::reclaim::reclaim;
 use oracle::recover::recover;
 use oracle::scan::{found, scan, Lists};
 use oracle::sector::{entry_state, EntryState, State, ENTRIES};
+use oracle::slip::{with_slip, Slip};
 use oracle::steps::{apply, call, Outcome, Run, Stage, Step};
 
 use crate::calls::{Answer, Call, Calls, ENDED, STOPPED};
@@ -138,8 +139,46 @@ fn resume(run: &mut Run, source: usize, copy: usize) {
     run.erase(source);
 }
 
-/// The names under which they can be run, the model first.
-pub const NAMES: [&str; 5] = ["model", "early-erasure", "downward-marks", "blobs-first", "resumed-copy"];
+/// Mutant: an erasure marks its entry states from the lowest word up, so that the header goes first.
+fn recover_erases_upwards(image: &[u8]) -> Listed {
+    with_slip(Slip::ErasureStatesAscending, || model_recover(image))
+}
+
+/// Recovery's steps up to the end of the finish stage, and on the image that they left the rules before its own.
+fn after_finish(image: &[u8], rules: impl FnOnce(&mut Run)) -> Listed {
+    let finishing = |stage| matches!(stage, Stage::ActiveOrder | Stage::Finish { .. });
+    let list = recover(image, u64::MAX, &mut [None; 16]).list;
+    let mut steps: Vec<Step> =
+        list.iter().filter(|tagged| finishing(tagged.stage)).map(|tagged| tagged.step).collect();
+    let mut finished = image.to_vec();
+    steps.iter().for_each(|step| apply(&mut finished, *step));
+    let rest = before_recovery(&finished, rules);
+    steps.extend(rest.steps);
+    Listed { steps, ..rest }
+}
+
+/// Mutant: of an unsound version the chunks are erased first and then the index.
+fn recover_erases_chunks_first(image: &[u8]) -> Listed {
+    after_finish(image, |run| {
+        let found = found(&run.image, &scan(&run.image).pages);
+        for version in versions(&found).values().filter(|version| !version.sound()) {
+            for part in version.chunks.iter().copied().chain(version.index()) {
+                run.erase_entries(part.sector, part.item.entry, part.item.span());
+            }
+        }
+    })
+}
+
+/// The names under which they can be run, the model first; the last two mutants go wrong on unsettled stores alone.
+pub const NAMES: [&str; 7] = [
+    "model",
+    "early-erasure",
+    "downward-marks",
+    "blobs-first",
+    "resumed-copy",
+    "upward-erasure",
+    "chunks-first",
+];
 
 pub fn stand_in(name: &str) -> Option<StandIn> {
     let (reclaim, recover): (Rules, Rules) = match name {
@@ -148,6 +187,8 @@ pub fn stand_in(name: &str) -> Option<StandIn> {
         "downward-marks" => (reclaim_marks_downwards, model_recover),
         "blobs-first" => (model_reclaim, recover_judges_blobs_first),
         "resumed-copy" => (model_reclaim, recover_resumes),
+        "upward-erasure" => (model_reclaim, recover_erases_upwards),
+        "chunks-first" => (model_reclaim, recover_erases_chunks_first),
         _ => return None,
     };
     Some(StandIn::new(reclaim, recover))

@@ -66,7 +66,7 @@ impl<'a> Version<'a> {
 /// "A version is (namespace, key, start) [..] Versions are taken in ascending (namespace, start, key)".
 pub type Versions<'a> = BTreeMap<(u8, u8, Key), Version<'a>>;
 
-fn versions(found: &[Found]) -> Versions<'_> {
+pub fn versions(found: &[Found]) -> Versions<'_> {
     let mut versions = Versions::new();
     for part in found.iter().filter(|part| part.item.is_chunk() || part.item.is_blob_index()) {
         if slipped(Slip::Namespace0BlobsKept) && part.item.namespace() == 0 {
