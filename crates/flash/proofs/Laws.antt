@@ -2,7 +2,7 @@
 use mathlib.Core.Path.{_≡_, refl, sym, ap, _∙_}
 use mathlib.Core.Logic.{_⊎_, inl, inr, ⊎-elim}
 use mathlib.Core.List.{List, [], _∷_, _++_}
-use Prim.Native.Nat.{ℕ, zero, suc, _+_, _-_, _≤_, _<_, min}
+use Prim.Native.Nat.{ℕ, zero, suc, _+_, _-_, _≤_, _<_}
 use native.Mathlib.Omega.{arith}
 use lib.ListN.{length, take, length-append}
 use lib.Seq.{take-all, take-nil, take-append-le, take-append-add}
@@ -106,14 +106,3 @@ goes-same g e = rw e at g
 -- any two outcomes that it allows are the same
 pub did-same : {ss : List Step} {n : ℕ} {l m m′ : List ℕ} {r r′ : Ran} → Did ss n l m r → Did ss n l m′ r′ → (m ≡ m′) × (r ≡ r′)
 did-same d e = (d .image ∙ sym (e .image), d .answer ∙ sym (e .answer))
-
--- how many steps were made: what is not left, and all that was allowed where it stopped
-pub made-done : {ss : List Step} {n k : ℕ} {l m : List ℕ} → Did ss n l m (Done k) → n - k ≡ min n (length ss)
-made-done {ss} {n} {k} d =
-    let h = ran-done n (length ss) k (d .answer) in
-    omega arith
-
-pub made-stopped : {ss : List Step} {n : ℕ} {l m : List ℕ} → Did ss n l m Stopped → n ≡ min n (length ss)
-made-stopped {ss} {n} d =
-    let h = ran-stopped n (length ss) (d .answer) in
-    omega arith

@@ -18,18 +18,18 @@ use Rattle.records.specs.Records.{recordsTo, noRows}
 use Rattle.recover.specs.declared.Recovered.{Recovered}
 use Rattle.recover.specs.Promise.{rowsFor, Recovers}
 use Rattle.listing.specs.Text.{space, newline, decimal}
-use Rattle.listing.specs.Listing.{stateWord, pageText, line, lines, head, linesFor, lent, allowance, answered, listing}
+use Rattle.listing.specs.Listing.{stateName, pageText, line, lines, head, linesFor, lent, allowance, answered, listing}
 
 -- a sector's line, free or not
 module _ (n : ℕ) (r : PageRecord) where
   abbrev lineBy : Bool → List ℕ
-  lineBy free = decimal n ++ (space ++ (stateWord (r .state) ++ (cond free [] (pageText r) ++ newline)))
+  lineBy free = decimal n ++ (space ++ (stateName (r .state) ++ (cond free [] (pageText r) ++ newline)))
 
-  pub line-free : isFree (r .state) ≡ true → decimal n ++ (space ++ (stateWord (r .state) ++ newline)) ≡ line n r
+  pub line-free : isFree (r .state) ≡ true → decimal n ++ (space ++ (stateName (r .state) ++ newline)) ≡ line n r
   unfolding line
   line-free e = ap lineBy (sym e)
 
-  pub line-page : isFree (r .state) ≡ false → decimal n ++ (space ++ (stateWord (r .state) ++ (pageText r ++ newline))) ≡ line n r
+  pub line-page : isFree (r .state) ≡ false → decimal n ++ (space ++ (stateName (r .state) ++ (pageText r ++ newline))) ≡ line n r
   unfolding line
   line-page e = ap lineBy (sym e)
 

@@ -19,12 +19,12 @@ use Rattle.recover.specs.Promise.{recoverAnswer, calling}
 use Rattle.listing.specs.Text.{word, space, newline, decimal, field}
 
 -- "0 blank", "1 full 7 ..": "Other pages read `active` or `freeing` in the place of `full`, a Corrupt sector `corrupt` alone"
-abbrev pub stateWord : PageState → List ℕ
-stateWord Blank = word "blank"
-stateWord Corrupt = word "corrupt"
-stateWord Active = word "active"
-stateWord Full = word "full"
-stateWord Freeing = word "freeing"
+abbrev pub stateName : PageState → List ℕ
+stateName Blank = word "blank"
+stateName Corrupt = word "corrupt"
+stateName Active = word "active"
+stateName Full = word "full"
+stateName Freeing = word "freeing"
 
 -- " written 3 erased 2 empty 121 illegal 0"
 unfoldable pub counts : PageRecord → List ℕ
@@ -38,7 +38,7 @@ pageText r = space ++ (decimal (r .sequence) ++ counts r)
 
 -- "0 blank", "1 full 7 written 3 ..": sector n, its state and, of a page, the rest of its record
 unfoldable pub line : ℕ → PageRecord → List ℕ
-line n r = decimal n ++ (space ++ (stateWord (r .state) ++ (cond (isFree (r .state)) [] (pageText r) ++ newline)))
+line n r = decimal n ++ (space ++ (stateName (r .state) ++ (cond (isFree (r .state)) [] (pageText r) ++ newline)))
 
 -- the lines of the records rs, the first of which is of sector n
 unfoldable pub lines : ℕ → List PageRecord → List ℕ
@@ -70,18 +70,18 @@ abbrev pub lent : ℕ
 lent = 16
 
 -- "recovers its image"
-abbrev pub recovered : List ℕ → List ℕ
-recovered l = run (take allowance (calling l lent)) l
+abbrev pub imageAfter : List ℕ → List ℕ
+imageAfter l = run (take allowance (calling l lent)) l
 
 abbrev pub answered : List ℕ → Answer
 answered l = recoverAnswer l lent allowance
 
 -- "`sectors` is the length over 4,096 rounded down"
 unfoldable pub listing : List ℕ → ℕ → List ℕ
-listing l bytes = head (bytes / 4096) (answered l) ++ linesFor (answered l) (recovered l)
+listing l bytes = head (bytes / 4096) (answered l) ++ linesFor (answered l) (imageAfter l)
 
 -- of the image l, which became m, the listing went into the bytes xs, which became ys: the first r of them, and what has no room is left out
 pub record Listed (l : List ℕ) (bytes : ℕ) (m xs ys : List ℕ) (r : ℕ) : Type 0 where
-  pub image : m ≡ recovered l
+  pub image : m ≡ imageAfter l
   pub text : take r ys ≡ take (length xs) (listing l bytes)
   pub rest : drop r ys ≡ drop r xs

@@ -12,11 +12,11 @@ ghost use Prim.Native.Nat.{_≤_};
 ghost use lib.ListN.{length};
 ghost use Rattle.io.specs.Counts.{Counts};
 ghost use Rattle.listing.specs.Text.{Put};
-ghost use Rattle.listing.specs.Listing.{stateWord, counts, pageText, line, head, Listed};
+ghost use Rattle.listing.specs.Listing.{stateName, counts, pageText, line, head, Listed};
 
 fn put_state(out: &mut [u8], at: usize, state: PageState) -> usize
     requires { ⌜ at ≤ length (now out) ⌝ }
-    ensures { λ to. ⌜ Put (now (out .entry)) at (stateWord state) (now (out .exit)) to ⌝ }
+    ensures { λ to. ⌜ Put (now (out .entry)) at (stateName state) (now (out .exit)) to ⌝ }
 {
     match state {
         PageState::Blank => put_text(out, at, b"blank"),

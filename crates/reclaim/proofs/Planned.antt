@@ -16,8 +16,7 @@ use Rattle.table.specs.Table.{sectorsOf, pages, frees, sequence, activePage}
 use Rattle.table.proofs.Pages.{pages-in, frees-in}
 use Rattle.reclaim.specs.declared.plan.Plan.{Plan}
 use Rattle.reclaim.specs.declared.plan.Plan.the-variants.{Refuse, Clear, Move}
-use Rattle.reclaim.specs.Reclaim.{candidate, next, closed, chosen, planTo, planWith, plan}
-use Rattle.reclaim.specs.Choosing.{over}
+use Rattle.reclaim.specs.Reclaim.{candidate, next, closed, chosen, planTo, planWith, plan, noFewerPoints}
 
 -- the sectors that a plan names are in the image, and they are two
 abbrev pub Named : List ℕ → Plan → Type 0
@@ -52,7 +51,7 @@ module _ (l : List ℕ) where
   named-with (some p) e = go (closed (p .seen .state))
     where
       h : p ∈ pages l
-      h = keep-in candidate (pages l) p (best-in (over (next (pages l))) (keep candidate (pages l)) p e) .0
+      h = keep-in candidate (pages l) p (best-in (noFewerPoints (next (pages l))) (keep candidate (pages l)) p e) .0
 
       full : (b : Bool) → Named l (cond b (Clear (p .sector)) (planTo (pages l) (p .sector) (getLast? (frees l))))
       full true = pages-in l p h .1

@@ -28,9 +28,12 @@ points n p = cond (eqb (p .seen .erased) 0) 0 (10 * p .seen .erased + (n - seque
 abbrev pub candidate : Page → Bool
 candidate p = ltb (p .seen .written) 126
 
--- "Most points win, the last in the list among equals."
+-- y, which stands later, goes before x: "Most points win, the last in the list among equals."
+abbrev pub noFewerPoints : ℕ → Page → Page → Bool
+noFewerPoints n y x = leb (points n x) (points n y)
+
 unfoldable pub chosen : List Page → Option Page
-chosen ps = best (λ (y x : Page). leb (points (next ps) x) (points (next ps) y)) (keep candidate ps)
+chosen ps = best (noFewerPoints (next ps)) (keep candidate ps)
 
 -- result 8: "chosen page neither Full nor Freeing"
 abbrev pub closed : PageState → Bool

@@ -10,8 +10,8 @@ ghost use mathlib.Core.List.{getLast?};
 ghost use Rattle.lists.specs.Lists.{greatest};
 ghost use Rattle.table.specs.Table.{sequence, listed, freed, Sized};
 ghost use Rattle.table.specs.Sought.{soughtOf, betterAmong};
-ghost use Rattle.reclaim.specs.Reclaim.{points, candidate, closed, chosen, planTo, plan};
-ghost use Rattle.reclaim.specs.Choosing.{over, targetOf};
+ghost use Rattle.reclaim.specs.Reclaim.{points, candidate, noFewerPoints, closed, chosen, planTo, plan};
+ghost use Rattle.reclaim.specs.Choosing.{targetOf};
 
 // It is refused; the source is erased, since all its entries are Erased; or its items are moved to the target, which gets the sequence.
 pub enum Plan {
@@ -53,7 +53,7 @@ fn points_of(next: u64, p: Page) -> u64
 // The better of a page and the best of those behind it: among equals the later.
 fn better_of(next: u64, p: Page, best: Sought) -> Sought
     requires { ⌜ next ≤ 0x1_0000_0000 ⌝ }
-    ensures { λ r. ⌜ r ≡ betterAmong candidate (over next) p best ⌝ }
+    ensures { λ r. ⌜ r ≡ betterAmong candidate (noFewerPoints next) p best ⌝ }
 {
     let seen = p.seen;
     if 126 <= seen.written {

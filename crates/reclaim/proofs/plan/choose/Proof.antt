@@ -11,13 +11,12 @@ use Rattle.table.specs.Table.{listed}
 use Rattle.table.specs.Sought.{soughtOf, betterAmong}
 use Rattle.table.proofs.Listing.{element, listed-end}
 use Rattle.table.proofs.Seeking.{among-more}
-use Rattle.reclaim.specs.Reclaim.{candidate, next, chosen}
-use Rattle.reclaim.specs.Choosing.{over}
+use Rattle.reclaim.specs.Reclaim.{candidate, next, chosen, noFewerPoints}
 use Rattle.reclaim.proofs.plan.choose.Statement.{statement}
 use Rattle.reclaim.proofs.plan.choose.Tie as tie
 
 abbrev Inv-loop : tie.InvT-loop
-Inv-loop top t next best₀ i₀ best i = (i ≤ t .count) × (best ≡ soughtOf (bestOf (over next) (keep candidate (drop i (listed t)))))
+Inv-loop top t next best₀ i₀ best i = (i ≤ t .count) × (best ≡ soughtOf (bestOf (noFewerPoints next) (keep candidate (drop i (listed t)))))
 
 abbrev μ-loop : tie.MeasureT-loop
 μ-loop top t next best₀ i₀ best i = i
@@ -27,7 +26,7 @@ unfolding keep bestOf
 loop-holds c =
     let t = c .before .args .t1 in (
       omega arith,
-      sym (ap (λ (xs : List Page). soughtOf (bestOf (over (c .long .result + 1)) (keep candidate xs))) (listed-end (t .pages) (t .count) (c .before .pre .0 .list) (t .count) (omega arith))),
+      sym (ap (λ (xs : List Page). soughtOf (bestOf (noFewerPoints (c .long .result + 1)) (keep candidate xs))) (listed-end (t .pages) (t .count) (c .before .pre .0 .list) (t .count) (omega arith))),
     )
 
 loop-again : tie.Need-loop-again Inv-loop μ-loop
@@ -39,9 +38,9 @@ loop-again c =
     let e : i - 1 + 1 ≡ i = omega arith in (
       omega arith,
       c .better-of .ensures
-          ∙ ap (betterAmong candidate (over n) _) (l .loop .inv .1 ∙ ap (λ (k : ℕ). soughtOf (bestOf (over n) (keep candidate (drop k (listed t))))) (sym e))
-          ∙ among-more (over n) candidate _ (drop (i - 1 + 1) (listed t))
-          ∙ sym (ap (λ (xs : List Page). soughtOf (bestOf (over n) (keep candidate xs))) (element (t .pages) (t .count) (l .before .before .pre .0 .list) (i - 1) _ (omega arith))),
+          ∙ ap (betterAmong candidate (noFewerPoints n) _) (l .loop .inv .1 ∙ ap (λ (k : ℕ). soughtOf (bestOf (noFewerPoints n) (keep candidate (drop k (listed t))))) (sym e))
+          ∙ among-more (noFewerPoints n) candidate _ (drop (i - 1 + 1) (listed t))
+          ∙ sym (ap (λ (xs : List Page). soughtOf (bestOf (noFewerPoints n) (keep candidate xs))) (element (t .pages) (t .count) (l .before .before .pre .0 .list) (i - 1) _ (omega arith))),
     )
 
 returns : tie.Need-returns Inv-loop μ-loop
@@ -53,8 +52,8 @@ returns c =
     let e : l .loop .i ≡ 0 = omega arith in
     let n : l .before .long .result + 1 ≡ next (listed t) = omega (arith, a .pre .1, l .before .long .ensures .0) in
     l .loop .inv .1
-    ∙ ap (λ (k : ℕ). soughtOf (bestOf (over (l .before .long .result + 1)) (keep candidate (drop k (listed t))))) e
-    ∙ ap (λ (m : ℕ). soughtOf (bestOf (over m) (keep candidate (listed t)))) n
+    ∙ ap (λ (k : ℕ). soughtOf (bestOf (noFewerPoints (l .before .long .result + 1)) (keep candidate (drop k (listed t))))) e
+    ∙ ap (λ (m : ℕ). soughtOf (bestOf (noFewerPoints m) (keep candidate (listed t)))) n
 
 pub choose-spec : {M : Type 1} → statement M
 choose-spec =
