@@ -16,6 +16,8 @@ struct Page {
     bytes: Vec<u8>,
     next: usize,
     key: usize,
+    mixed: bool,
+    space: u8,
 }
 
 impl Page {
@@ -26,7 +28,7 @@ impl Page {
         bytes[8] = 0xFE;
         let crc = header_crc(&bytes);
         bytes[28..32].copy_from_slice(&crc.to_le_bytes());
-        Page { bytes, next: 0, key: sequence as usize * 1000 }
+        Page { bytes, next: 0, key: sequence as usize * 1000, mixed: false, space: 1 }
     }
 
     fn set_states(&mut self, count: usize, state: u8) {
@@ -47,9 +49,9 @@ impl Page {
     fn item(&mut self, kind: u8, chunk: u8, data: [u8; 8], payload: &[u8]) {
         let span = 1 + payload.len().div_ceil(32);
         let at = 64 + 32 * self.next;
-        let key = format!("q{:08}", self.key);
+        let key = format!("q{:08}", if self.mixed { ((self.key as u64).wrapping_mul(0x9E37_79B9_7F4A_7C15) >> 20) as usize % 100_000_000 } else { self.key });
         self.bytes[at..at + 32].fill(0);
-        self.bytes[at..at + 4].copy_from_slice(&[1, kind, span as u8, chunk]);
+        self.bytes[at..at + 4].copy_from_slice(&[self.space, kind, span as u8, chunk]);
         self.bytes[at + 8..at + 8 + key.len()].copy_from_slice(key.as_bytes());
         self.bytes[at + 24..at + 32].copy_from_slice(&data);
         let crc = entry_crc(&self.bytes[at..at + 32]);
@@ -181,4 +183,246 @@ pub fn items(sector: &[u8]) -> Vec<&[u8]> {
         }
     }
     found
+}
+
+/// A page whose keys do not ascend.
+fn stirred(state: u32, sequence: u32) -> Page {
+    let mut page = Page::new(state, sequence);
+    page.mixed = true;
+    page
+}
+
+/// 1,900 one-entry items, keys in no order, and no two alike.
+pub fn settled_stirred() -> Vec<u8> {
+    let mut pages: Vec<Page> = (1..16).map(|s| stirred(FULL, s).numbers_to(ENTRIES)).collect();
+    pages.push(stirred(ACTIVE, 16).numbers_to(10));
+    image(pages, 0)
+}
+
+/// 1,900 one-entry items, the last with the key of the first.
+pub fn one_doubled(mixed: bool) -> Vec<u8> {
+    let of = |state, s| if mixed { stirred(state, s) } else { Page::new(state, s) };
+    let mut pages: Vec<Page> = (1..16).map(|s| of(FULL, s).numbers_to(ENTRIES)).collect();
+    let mut page = of(ACTIVE, 16).numbers_to(9);
+    page.key = 1000;
+    pages.push(page.numbers_to(10));
+    image(pages, 0)
+}
+
+/// 1,898 one-entry items and a blob of one chunk whose index has another size.
+pub fn one_unsound() -> Vec<u8> {
+    let mut pages: Vec<Page> = (1..16).map(|s| stirred(FULL, s).numbers_to(ENTRIES)).collect();
+    let mut page = stirred(ACTIVE, 16).numbers_to(8);
+    page.key += 1;
+    page.item(CHUNK, 0, sized(&[]), &[]);
+    page.item(INDEX, 0xFF, [61, 0, 0, 0, 1, 0, 0xFF, 0xFF], &[]);
+    pages.push(page);
+    image(pages, 0)
+}
+
+/// 15 pages of 63 sound blobs of one empty chunk; the last blob is unsound if so wanted.
+pub fn blobs(unsound: bool) -> Vec<u8> {
+    let mut pages = Vec::new();
+    for sequence in 1..16 {
+        let mut page = stirred(FULL, sequence);
+        while page.next + 2 <= ENTRIES {
+            page.key += 1;
+            page.item(CHUNK, 0, sized(&[]), &[]);
+            let size = u8::from(unsound && sequence == 15 && page.next + 1 == ENTRIES);
+            page.item(INDEX, 0xFF, [size, 0, 0, 0, 1, 0, 0xFF, 0xFF], &[]);
+        }
+        pages.push(page);
+    }
+    image(pages, 1)
+}
+
+/// 882 items twice, keys in no order.
+pub fn doubled_stirred() -> Vec<u8> {
+    let mut pages: Vec<Page> = (1..8).map(|s| stirred(FULL, s).numbers_to(ENTRIES)).collect();
+    for sequence in 8..15 {
+        let mut page = stirred(FULL, sequence);
+        page.key = (sequence as usize - 7) * 1000;
+        pages.push(page.numbers_to(ENTRIES));
+    }
+    pages.push(stirred(ACTIVE, 15).numbers_to(10));
+    image(pages, 1)
+}
+
+/// 1,008 items twice, in 16 pages, keys in no order: the copies stand in another order.
+pub fn doubled_most() -> Vec<u8> {
+    let mut pages: Vec<Page> = Vec::new();
+    for sequence in 1..17u32 {
+        let mut page = stirred(FULL, sequence);
+        while page.next < ENTRIES {
+            let number = (sequence as usize - 1) * ENTRIES + page.next;
+            let number = if number < 1008 { number } else { (number - 1008) * 565 % 1008 };
+            page.key = number + 1;
+            page.item(NUMBER, 0xFF, [0; 8], &[]);
+        }
+        pages.push(page);
+    }
+    image(pages, 0)
+}
+
+/// 945 blobs, all unsound.
+pub fn unsound_most() -> Vec<u8> {
+    let mut pages = Vec::new();
+    for sequence in 1..17 {
+        let mut page = stirred(FULL, sequence);
+        while page.next + 2 <= ENTRIES {
+            page.key += 1;
+            page.item(CHUNK, 0, sized(&[]), &[]);
+            page.item(INDEX, 0xFF, [1, 0, 0, 0, 1, 0, 0xFF, 0xFF], &[]);
+        }
+        pages.push(page);
+    }
+    image(pages, 0)
+}
+
+/// 2,016 items of one key.
+pub fn one_key() -> Vec<u8> {
+    let mut pages = Vec::new();
+    for sequence in 1..17 {
+        let mut page = Page::new(FULL, 40 - sequence);
+        while page.next < ENTRIES {
+            page.key = 1;
+            page.item(NUMBER, 0xFF, [0; 8], &[]);
+        }
+        pages.push(page);
+    }
+    image(pages, 0)
+}
+
+/// 672 blobs of one empty chunk, each beside a newer number of its key.
+pub fn covered() -> Vec<u8> {
+    let mut pages = Vec::new();
+    for sequence in 1..17 {
+        let mut page = stirred(FULL, sequence);
+        while page.next + 3 <= ENTRIES {
+            page.key += 1;
+            page.item(CHUNK, 0, sized(&[]), &[]);
+            page.item(INDEX, 0xFF, [0, 0, 0, 0, 1, 0, 0xFF, 0xFF], &[]);
+            page.item(NUMBER, 0xFF, [0; 8], &[]);
+        }
+        pages.push(page);
+    }
+    image(pages, 0)
+}
+
+/// 1,008 groups of two sound blobs with no chunk.
+pub fn both_starts() -> Vec<u8> {
+    let mut pages = Vec::new();
+    for sequence in 1..17u32 {
+        let mut page = stirred(FULL, sequence);
+        page.key = (sequence as usize - 1) % 8 * 1000;
+        while page.next < ENTRIES {
+            page.key += 1;
+            page.item(INDEX, 0xFF, [0, 0, 0, 0, 0, if sequence <= 8 { 0 } else { 0x80 }, 0xFF, 0xFF], &[]);
+        }
+        pages.push(page);
+    }
+    image(pages, 0)
+}
+
+/// 504 groups of two blobs, each sound and of one empty chunk.
+pub fn both_whole() -> Vec<u8> {
+    let mut pages = Vec::new();
+    for sequence in 1..17u32 {
+        let mut page = stirred(FULL, sequence);
+        page.key = (sequence as usize - 1) % 8 * 1000;
+        let start = if sequence <= 8 { 0 } else { 0x80 };
+        while page.next < ENTRIES {
+            page.key += 1;
+            page.item(CHUNK, start, sized(&[]), &[]);
+            page.item(INDEX, 0xFF, [0, 0, 0, 0, 1, start, 0xFF, 0xFF], &[]);
+        }
+        pages.push(page);
+    }
+    image(pages, 0)
+}
+
+/// 2,016 chunks of 2,016 keys without an index.
+pub fn lone_chunks() -> Vec<u8> {
+    let mut pages = Vec::new();
+    for sequence in 1..17u32 {
+        let mut page = stirred(FULL, sequence);
+        while page.next < ENTRIES {
+            page.key += 1;
+            page.item(CHUNK, 0, sized(&[]), &[]);
+        }
+        pages.push(page);
+    }
+    image(pages, 0)
+}
+
+/// 1,000 numbers, 1,000 blob indices and 16 numbers, all of one key.
+pub fn one_key_mixed() -> Vec<u8> {
+    let mut pages = Vec::new();
+    let mut made = 0;
+    for sequence in 1..17 {
+        let mut page = Page::new(FULL, sequence);
+        while page.next < ENTRIES {
+            page.key = 1;
+            if (1000..2000).contains(&made) {
+                page.item(INDEX, 0xFF, [0, 0, 0, 0, 0, 0, 0xFF, 0xFF], &[]);
+            } else {
+                page.item(NUMBER, 0xFF, [0; 8], &[]);
+            }
+            made += 1;
+        }
+        pages.push(page);
+    }
+    image(pages, 0)
+}
+
+/// The slot at which the quick test begins to look for a number's name.
+fn slot(space: u64, key: &[u8]) -> u64 {
+    let mut bytes = [0u8; 16];
+    bytes[..key.len()].copy_from_slice(key);
+    let high = u64::from_be_bytes(bytes[..8].try_into().unwrap());
+    let low = u64::from_be_bytes(bytes[8..].try_into().unwrap());
+    let both = high ^ low / 8;
+    let mixed = (both >> 32).wrapping_mul(0x9E37_79B1) ^ (both & 0xFFFF_FFFF).wrapping_mul(0x85EB_CA77) ^ space * 0x1656_67B1;
+    (mixed ^ mixed >> 32) >> 20 & 4095
+}
+
+/// 2,016 one-entry items, no two alike, whose names all begin at one slot.
+pub fn flood() -> Vec<u8> {
+    let mut pages = Vec::new();
+    let mut key = 1;
+    for sequence in 1..17u32 {
+        let mut page = Page::new(FULL, sequence);
+        while page.next < ENTRIES {
+            key += 1;
+            if slot(1, format!("q{key:08}").as_bytes()) == 77 {
+                page.key = key;
+                page.item(NUMBER, 0xFF, [0; 8], &[]);
+            }
+        }
+        pages.push(page);
+    }
+    image(pages, 0)
+}
+
+/// 945 blobs of one empty chunk, the last one unsound, whose indices' names crowd few slots: many looks, and none too many for the quick test.
+pub fn crowded() -> Vec<u8> {
+    let mut pages = Vec::new();
+    let mut taken = [0usize; 4096];
+    let mut key = 1;
+    for sequence in 1..16u32 {
+        let mut page = Page::new(FULL, sequence);
+        while page.next < ENTRIES {
+            key += 1;
+            let index = slot(1, format!("q{key:08}").as_bytes()) as usize;
+            if index % 128 == 0 && taken[index] < 31 {
+                taken[index] += 1;
+                page.key = key;
+                page.item(CHUNK, 0, sized(&[]), &[]);
+                let size = u8::from(sequence == 15 && page.next + 1 == ENTRIES);
+                page.item(INDEX, 0xFF, [size, 0, 0, 0, 1, 0, 0xFF, 0xFF], &[]);
+            }
+        }
+        pages.push(page);
+    }
+    image(pages, 1)
 }

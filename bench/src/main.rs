@@ -4,7 +4,7 @@ mod images;
 mod stack;
 
 use crc::{crc, entry_crc, header_crc};
-use images::{doubled, items, sector, settled_16, settled_4, settled_475, settled_mixed, to_reclaim, unsound, SECTOR};
+use images::*;
 use std::hint::black_box;
 use std::time::Instant;
 
@@ -170,14 +170,13 @@ fn entries_of(sectors: &[u8]) -> u32 {
 /// The deepest stack of each call, beside the image.
 fn measure_stacks() {
     println!("deepest stack of a call, in bytes");
-    for (what, image, call) in [
+    let more = to_repair().into_iter().map(|(what, image)| (what, image, recover as Call));
+    for (what, image, call) in more.chain([
         ("reclaim: 16 sectors, 100 items copied", to_reclaim(14), reclaim as Call),
         ("recovery: clean, 16 sectors, 1,900 items", settled_16(), recover),
         ("recovery: clean, 16 sectors, mixed", settled_mixed(), recover),
-        ("recovery: 16 sectors, 882 items twice", doubled(), recover),
-        ("recovery: 16 sectors, 465 unsound blobs", unsound(), recover),
         ("recovery: 16 sectors, a reclaim cut", half_reclaimed(), recover),
-    ] {
+    ]) {
         let mut copy = image.to_vec();
         let bytes = stack::depth(|| {
             black_box(call(&mut copy));
@@ -216,13 +215,36 @@ fn time_recoveries() {
         let limit = || headers_of(&image) ^ entries_of(&image);
         time_calls(what, &image, limit, Some(recover), of_crate::RECOVER);
     }
-    // the slow path: the crate's rules differ on these, so it is not run beside
-    for (what, image) in
-        [("recovery: 16 sectors, 882 items twice", doubled()), ("recovery: 16 sectors, 465 unsound blobs", unsound())]
-    {
+    // with something to repair: the crate's rules differ on these, so it is not run beside
+    for (what, image) in to_repair() {
         let limit = || headers_of(&image) ^ entries_of(&image);
         time_calls(what, &image, limit, Some(recover), None);
     }
+}
+
+/// Stores with something to repair.
+fn to_repair() -> Vec<(&'static str, Vec<u8>)> {
+    vec![
+        ("recovery: clean, 16 sectors, keys in no order", settled_stirred()),
+        ("recovery: clean, 16 sectors, 945 blobs", blobs(false)),
+        ("recovery: one item twice", one_doubled(false)),
+        ("recovery: one item twice, keys in no order", one_doubled(true)),
+        ("recovery: one unsound blob, 1,898 numbers", one_unsound()),
+        ("recovery: one unsound blob of 945", blobs(true)),
+        ("recovery: 882 items twice", doubled()),
+        ("recovery: 882 items twice, in no order", doubled_stirred()),
+        ("recovery: 1,008 items twice, in no order", doubled_most()),
+        ("recovery: 465 unsound blobs", unsound()),
+        ("recovery: 1,008 unsound blobs", unsound_most()),
+        ("recovery: 2,016 items of one key", one_key()),
+        ("recovery: 672 blobs under newer numbers", covered()),
+        ("recovery: 1,008 groups, two indices each", both_starts()),
+        ("recovery: 504 groups, two blobs each", both_whole()),
+        ("recovery: 2,016 chunks with no index", lone_chunks()),
+        ("recovery: one key, numbers and indices", one_key_mixed()),
+        ("recovery: clean, 2,016 names of one slot", flood()),
+        ("recovery: one unsound blob of 945, crowded", crowded()),
+    ]
 }
 
 fn time_readings() {

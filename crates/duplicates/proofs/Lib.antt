@@ -7,3 +7,8 @@ pub mod Versions
 pub mod Grouping
 pub mod Groups
 pub mod Apart
+pub mod Local
+pub mod Aged
+pub mod Back
+pub mod OneGroup
+pub mod Rest

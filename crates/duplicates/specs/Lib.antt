@@ -1,2 +1,3 @@
 pub mod Duplicates
 pub mod Turns
+pub mod Runs

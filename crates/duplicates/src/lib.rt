@@ -1,6 +1,6 @@
 // Recovery's fourth stage: all but the newest item of each group go, and an Active page that has no Empty entry left is closed.
-mod group;
 mod old;
+mod run;
 mod stage;
 
 pub use stage::duplicate_stage;

@@ -26,12 +26,12 @@ fn any_start(image: &[u8], places: &[u16], start: u8) -> bool
     requires { ⌜ Each (Placed (now image)) (now places) ⌝ }
     ensures { λ r. ⌜ r ≡ some-of (λ (x : Found). indexFrom start (x .raw)) (itemsAt (now (image .entry)) (now (places .entry))) ⌝ }
 {
-    let mut i: usize = 0;
-    while i < places.len() {
+    let mut i = places.len();
+    while 0 < i {
+        i -= 1;
         if is_start(image, found::place_at(places, i), start) {
             return true;
         }
-        i += 1;
     }
     false
 }

@@ -1,10 +1,7 @@
 // The stage: groups in ascending order, then the last mark.
-use super::group::sort_group;
-use super::old::erase_all_old;
+use super::run::take_run;
 use flash::Ran;
-use found::Next;
-use found::Pass;
-use found::Rank;
+use sort::Order;
 use table::Table;
 ghost use mathlib.Core.Path.{_≡_};
 ghost use mathlib.Core.List.{map, flatMap};
@@ -17,39 +14,38 @@ ghost use Rattle.table.specs.Table.{sectorsOf, listed, freed, Sized};
 ghost use Rattle.table.specs.Placed.{Placed as PagesPlaced};
 ghost use Rattle.found.specs.Found.{found};
 ghost use Rattle.found.specs.Places.{placeOf, itemsAt, Each, Lies, Placed, Alike};
-ghost use Rattle.found.specs.Ranks.{rankNumber};
+ghost use Rattle.sort.specs.Rank.{groupBy};
+ghost use Rattle.sort.specs.Runs.{runs};
 ghost use Rattle.duplicates.specs.Duplicates.{groups, lastMarks, duplicateStage};
 ghost use Rattle.duplicates.specs.Turns.{groupSteps};
+ghost use Rattle.duplicates.specs.Runs.{runSteps};
 
-// The places are the first `n` in `room`, and from 2016 on it is free to sort in.
-fn take_group(image: &mut [u8], room: &mut [u16], n: usize, g: Rank, allowed: u64) -> Ran
+// The groups one after the other: the first `n` places are sorted by them.
+fn take_runs(image: &mut [u8], room: &mut [u16], n: usize, allowed: u64) -> Ran
     requires { ⌜ Each (Placed (now image)) (take n (now room)) × (n ≤ 2016) × (4032 ≤ length (now room)) ⌝ }
-    ensures { λ r. ⌜ Did (groupSteps (itemsAt (now (image .entry)) (take n (now (room .entry)))) (rankNumber g)) allowed (now (image .entry)) (now (image .exit)) r × Alike (now (image .entry)) (now (image .exit)) × (take n (now (room .exit)) ≡ take n (now (room .entry))) ⌝ }
-{
-    let m = sort_group(image, room, n, g);
-    let e = 2016 + m;
-    let held = &room[..];
-    erase_all_old(image, &held[..n], &held[2016..e], allowed)
-}
-
-// "Repeated search for the next key": each group, ascending.
-fn make_duplicates(image: &mut [u8], room: &mut [u16], n: usize, allowed: u64) -> Ran
-    requires { ⌜ Each (Placed (now image)) (take n (now room)) × (n ≤ 2016) × (4032 ≤ length (now room)) ⌝ }
-    ensures { λ r. ⌜ Did (flatMap (groupSteps (itemsAt (now (image .entry)) (take n (now (room .entry))))) (groups (itemsAt (now (image .entry)) (take n (now (room .entry)))))) allowed (now (image .entry)) (now (image .exit)) r × Alike (now (image .entry)) (now (image .exit)) ⌝ }
+    ensures { λ r. ⌜ Did (flatMap runSteps (runs groupBy (itemsAt (now (image .entry)) (take n (now (room .entry)))))) allowed (now (image .entry)) (now (image .exit)) r × Alike (now (image .entry)) (now (image .exit)) ⌝ }
 {
     let mut left = allowed;
-    let mut last = Next::Nothing;
-    loop {
-        let Next::Is(g) = found::next_rank(image, &room[..n], Pass::Items, last) else {
-            return Ran::Done(left);
-        };
-        let r = take_group(image, room, n, g, left);
+    let mut a: usize = 0;
+    while a < n {
+        let m = sort::run_end(image, &room[a..n], 0);
+        let r = take_run(image, &mut room[a..], m, left);
         let Ran::Done(rest) = r else {
             return Ran::Stopped;
         };
         left = rest;
-        last = Next::Is(g);
+        a += m;
     }
+    Ran::Done(left)
+}
+
+// Each group, ascending: the places are sorted by their groups, from 2016 on the room is free for that.
+fn make_duplicates(image: &mut [u8], room: &mut [u16], n: usize, allowed: u64) -> Ran
+    requires { ⌜ Each (Placed (now image)) (take n (now room)) × (n ≤ 2016) × (4032 ≤ length (now room)) ⌝ }
+    ensures { λ r. ⌜ Did (flatMap (groupSteps (itemsAt (now (image .entry)) (take n (now (room .entry))))) (groups (itemsAt (now (image .entry)) (take n (now (room .entry)))))) allowed (now (image .entry)) (now (image .exit)) r × Alike (now (image .entry)) (now (image .exit)) ⌝ }
+{
+    sort::sort(image, room, n, Order::Group);
+    take_runs(image, room, n, allowed)
 }
 
 // How many Empty entries the page in `sector` has as the image stands.

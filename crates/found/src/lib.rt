@@ -22,4 +22,5 @@ pub use ranks::Next;
 pub use ranks::Pass;
 pub use ranks::Rank;
 pub use ranks::next_rank;
+pub use ranks::rank_less;
 pub use ranks::rank_same;

@@ -33,7 +33,7 @@ pub enum Pass {
     Items,
 }
 
-fn rank_less(a: Rank, b: Rank) -> bool
+pub fn rank_less(a: Rank, b: Rank) -> bool
     ensures { λ r. ⌜ r ≡ ltb (rankNumber a) (rankNumber b) ⌝ }
 {
     if a.high < b.high {

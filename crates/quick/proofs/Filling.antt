@@ -62,7 +62,7 @@ module _ (t l ps : List ℕ) (p : ℕ) (named : Named t l ps) where
         only = λ i h. still l ps p _ (named .only i h);
       }
 
-  module _ (s : ℕ) (room : 4096 ≤ length t) (some : 1 ≤ p) (free : s < 4096) (e : s ≡ gap t l (nameOf (rawAt l p)) 4096 (slotOf (nameOf (rawAt l p)))) where
+  module _ (s : ℕ) (room : 4096 ≤ length t) (some : 1 ≤ p) (free : s < 4096) (e : s ≡ gap t l (nameOf (rawAt l p)) 64 (slotOf (nameOf (rawAt l p)))) where
     abbrev k : ℕ
     k = nameOf (rawAt l p)
 
@@ -112,7 +112,7 @@ module _ (t u l ps : List ℕ) (i : ℕ) (here : i < length ps) (before : Filled
   pub passed : judged (rawAt l (getD ps i 0)) ≡ false → Filled t u l (take (i + 1) ps)
   passed e = record { leads = before .leads; named = λ xs n. rw (front xs) at (named-passed u l (xs ++ take i ps) (getD ps i 0) (before .named xs n) e) }
 
-  module _ (placed : Placed l (getD ps i 0)) (s : ℕ) (free : s < 4096) (e : s ≡ gap u l (nameOf (rawAt l (getD ps i 0))) 4096 (slotOf (nameOf (rawAt l (getD ps i 0))))) where
+  module _ (placed : Placed l (getD ps i 0)) (s : ℕ) (free : s < 4096) (e : s ≡ gap u l (nameOf (rawAt l (getD ps i 0))) 64 (slotOf (nameOf (rawAt l (getD ps i 0))))) where
     pub put : Filled t (set u s (getD ps i 0)) l (take (i + 1) ps)
     put =
         let p = getD ps i 0 in

@@ -21,44 +21,44 @@ slot-in t i h = go (ltb i (length t)) refl
 
 module _ (t l : List ℕ) (k : ℕ) where
   -- ---- one slot, as the code counts
-  module _ (n i : ℕ) (h : n < 4096) where
-    one-less : 4096 - n ≡ suc (4096 - (n + 1))
+  module _ (n i : ℕ) (h : n < 64) where
+    one-less : 64 - n ≡ suc (64 - (n + 1))
     one-less = omega arith
 
-    pub look-free : getD t i 0 ≡ 0 → look t l k (4096 - n) i ≡ 0
+    pub look-free : getD t i 0 ≡ 0 → look t l k (64 - n) i ≡ 0
     unfolding look
     look-free e = rw (one-less, eq-eqb _ 0 e)
 
-    pub look-hit : (getD t i 0 ≡ 0 → ⊥) → hit l k (getD t i 0) ≡ true → look t l k (4096 - n) i ≡ getD t i 0
+    pub look-hit : (getD t i 0 ≡ 0 → ⊥) → hit l k (getD t i 0) ≡ true → look t l k (64 - n) i ≡ getD t i 0
     unfolding look
     look-hit e p = rw (one-less, ne-eqb _ 0 e, p)
 
-    pub look-miss : (getD t i 0 ≡ 0 → ⊥) → hit l k (getD t i 0) ≡ false → look t l k (4096 - n) i ≡ look t l k (4096 - (n + 1)) ((i + 1) % 4096)
+    pub look-miss : (getD t i 0 ≡ 0 → ⊥) → hit l k (getD t i 0) ≡ false → look t l k (64 - n) i ≡ look t l k (64 - (n + 1)) ((i + 1) % 4096)
     unfolding look
     look-miss e p = rw (one-less, ne-eqb _ 0 e, p)
 
-    pub gap-free : getD t i 0 ≡ 0 → gap t l k (4096 - n) i ≡ i
+    pub gap-free : getD t i 0 ≡ 0 → gap t l k (64 - n) i ≡ i
     unfolding gap
     gap-free e = rw (one-less, eq-eqb _ 0 e)
 
-    pub gap-hit : (getD t i 0 ≡ 0 → ⊥) → hit l k (getD t i 0) ≡ true → gap t l k (4096 - n) i ≡ 4096
+    pub gap-hit : (getD t i 0 ≡ 0 → ⊥) → hit l k (getD t i 0) ≡ true → gap t l k (64 - n) i ≡ 4096
     unfolding gap
     gap-hit e p = rw (one-less, ne-eqb _ 0 e, p)
 
-    pub gap-miss : (getD t i 0 ≡ 0 → ⊥) → hit l k (getD t i 0) ≡ false → gap t l k (4096 - n) i ≡ gap t l k (4096 - (n + 1)) ((i + 1) % 4096)
+    pub gap-miss : (getD t i 0 ≡ 0 → ⊥) → hit l k (getD t i 0) ≡ false → gap t l k (64 - n) i ≡ gap t l k (64 - (n + 1)) ((i + 1) % 4096)
     unfolding gap
     gap-miss e p = rw (one-less, ne-eqb _ 0 e, p)
 
-  pub look-end : (n i : ℕ) → 4096 ≤ n → look t l k (4096 - n) i ≡ 0
+  pub look-end : (n i : ℕ) → 64 ≤ n → look t l k (64 - n) i ≡ 0
   unfolding look
   look-end n i h =
-      let q : 4096 - n ≡ 0 = omega arith in
+      let q : 64 - n ≡ 0 = omega arith in
       rw q
 
-  pub gap-end : (n i : ℕ) → 4096 ≤ n → gap t l k (4096 - n) i ≡ 4096
+  pub gap-end : (n i : ℕ) → 64 ≤ n → gap t l k (64 - n) i ≡ 4096
   unfolding gap
   gap-end n i h =
-      let q : 4096 - n ≡ 0 = omega arith in
+      let q : 64 - n ≡ 0 = omega arith in
       rw q
 
   -- ---- a search finds nothing but a hit, which stands in a slot
@@ -75,7 +75,7 @@ module _ (t l : List ℕ) (k : ℕ) where
 
   pub told-name : 1 ≤ told t l k → nameOf (rawAt l (told t l k)) ≡ k
   unfolding told
-  told-name h = eqb-true _ k (look-only 4096 (slotOf k) h)
+  told-name h = eqb-true _ k (look-only 64 (slotOf k) h)
 
   module _ (P : ℕ → Type 0) (each : EachSlot P t) where
     look-slot : (n i : ℕ) → 1 ≤ look t l k n i → P (look t l k n i)
@@ -90,7 +90,7 @@ module _ (t l : List ℕ) (k : ℕ) where
 
     pub told-slot : 1 ≤ told t l k → P (told t l k)
     unfolding told
-    told-slot h = look-slot 4096 (slotOf k) h
+    told-slot h = look-slot 64 (slotOf k) h
 
   -- where the search ends at a free slot, it found nothing
   gap-look : (n i : ℕ) → gap t l k n i < 4096 → look t l k n i ≡ 0
@@ -103,9 +103,9 @@ module _ (t l : List ℕ) (k : ℕ) where
       go g on false true e ih = absurd (omega arith)
       go g on false false e ih = ih e
 
-  pub gap-told : gap t l k 4096 (slotOf k) < 4096 → told t l k ≡ 0
+  pub gap-told : gap t l k 64 (slotOf k) < 4096 → told t l k ≡ 0
   unfolding told
-  gap-told h = gap-look 4096 (slotOf k) h
+  gap-told h = gap-look 64 (slotOf k) h
 
 -- ---- a free slot is filled with place v
 pub each-set : (P : ℕ → Type 0) (t : List ℕ) (s v : ℕ) → s < length t → EachSlot P t → P v → EachSlot P (set t s v)
@@ -136,7 +136,7 @@ module _ (t l : List ℕ) (k : ℕ) where
 
     pub told-kept : 1 ≤ told t l k → told (set t s v) l k ≡ told t l k
     unfolding told
-    told-kept h = look-kept 4096 (slotOf k) h
+    told-kept h = look-kept 64 (slotOf k) h
 
   -- the slot at which the search for the name of v ends is free, and once it is filled the search finds v
   module _ (v : ℕ) (some : 1 ≤ v) (named : hit l k v ≡ true) (room : 4096 ≤ length t) where
@@ -154,6 +154,6 @@ module _ (t l : List ℕ) (k : ℕ) where
         go on false p true q g ih = absurd (omega arith)
         go on false p false q g ih = let r = ih g in (r .0, rw (other-slot on v (r .0) i (eqb-false _ 0 p), p, q) (r .1))
 
-    pub told-new : gap t l k 4096 (slotOf k) < 4096 → slotOf k < 4096 → (getD t (gap t l k 4096 (slotOf k)) 0 ≡ 0) × (told (set t (gap t l k 4096 (slotOf k)) v) l k ≡ v)
+    pub told-new : gap t l k 64 (slotOf k) < 4096 → slotOf k < 4096 → (getD t (gap t l k 64 (slotOf k)) 0 ≡ 0) × (told (set t (gap t l k 64 (slotOf k)) v) l k ≡ v)
     unfolding told
-    told-new h m = gap-filled 4096 (slotOf k) m h
+    told-new h m = gap-filled 64 (slotOf k) m h

@@ -29,9 +29,9 @@ unfoldable pub look : List ℕ → List ℕ → ℕ → ℕ → ℕ → ℕ
 look t l k zero i = 0
 look t l k (suc n) i = cond (eqb (getD t i 0) 0) 0 (cond (hit l k (getD t i 0)) (getD t i 0) (look t l k n ((i + 1) % 4096)))
 
--- the place to which the table leads from the name k
+-- the place to which the table leads from the name k: 64 slots are looked at, so that names that crowd one slot cost no more than a sort
 unfoldable pub told : List ℕ → List ℕ → ℕ → ℕ
-told t l k = look t l k 4096 (slotOf k)
+told t l k = look t l k 64 (slotOf k)
 
 -- the first free slot, of n slots from slot i on around; 4096 where a hit comes before it, or there is none
 unfoldable pub gap : List ℕ → List ℕ → ℕ → ℕ → ℕ → ℕ

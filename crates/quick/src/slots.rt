@@ -31,7 +31,7 @@ pub fn find(image: &[u8], slots: &[u16], name: Rank) -> usize
 {
     let mut i = slot_of(name);
     let mut n: usize = 0;
-    while n < 4096 {
+    while n < 64 {
         let place = slots[i] as usize;
         if place == 0 {
             return 0;
@@ -45,14 +45,14 @@ pub fn find(image: &[u8], slots: &[u16], name: Rank) -> usize
     0
 }
 
-// The free slot at which the search for a name ends; 4096 where it finds the name, or no slot is free.
+// The free slot at which the search for a name ends; 4096 where it finds the name, or none of 64 slots is free.
 fn free_slot(image: &[u8], slots: &[u16], name: Rank) -> usize
     requires { ⌜ Leads (now slots) (now image) ⌝ }
-    ensures { λ r. ⌜ r ≡ gap (now (slots .entry)) (now (image .entry)) (rankNumber name) 4096 (slotOf (rankNumber name)) ⌝ }
+    ensures { λ r. ⌜ r ≡ gap (now (slots .entry)) (now (image .entry)) (rankNumber name) 64 (slotOf (rankNumber name)) ⌝ }
 {
     let mut i = slot_of(name);
     let mut n: usize = 0;
-    while n < 4096 {
+    while n < 64 {
         let place = slots[i] as usize;
         if place == 0 {
             return i;

@@ -1,6 +1,6 @@
 -- The stages in sequence: what each one's steps leave to the next. Assumes nothing.
 use mathlib.Core.Path.{_≡_, refl}
-use mathlib.Core.List.{List}
+use mathlib.Core.List.{List, []}
 use Prim.Native.Nat.{ℕ, zero, suc}
 use native.Mathlib.Omega.{arith}
 use Rattle.flash.specs.declared.Ran.{Ran}
@@ -43,6 +43,15 @@ module _ (ps : List Page) {n : ℕ} {l m : List ℕ} {r : Ran} (d : Did (blobSte
 pub calm-stages : (ps : List Page) (l : List ℕ) → Calm (λ (f : List ℕ → ℕ). tot f (found ps l)) → lastStages ps l ≡ tag Duplicates (lastMarks ps l)
 unfolding lastStages duplicateStage run tag
 calm-stages ps l calm = rw (blob-idle (found ps l) calm, duplicate-idle (found ps l) calm)
+
+-- so too in stage 4 alone; and where stage 3 has no step, stage 4 is all
+pub calm-last : (ps : List Page) (l : List ℕ) → Calm (λ (f : List ℕ → ℕ). tot f (found ps l)) → duplicateStage ps l ≡ lastMarks ps l
+unfolding duplicateStage run
+calm-last ps l calm = rw (duplicate-idle (found ps l) calm)
+
+pub no-blobs : (ps : List Page) (l : List ℕ) → blobSteps (found ps l) ≡ [] → lastStages ps l ≡ tag Duplicates (duplicateStage ps l)
+unfolding lastStages run tag
+no-blobs ps l e = rw e
 
 -- ---- stage 1, and then 3 and 4
 

@@ -10,17 +10,17 @@ use Rattle.quick.proofs.slots.find.Statement.{statement}
 use Rattle.quick.proofs.slots.find.Tie as tie
 
 abbrev Inv-loop : tie.InvT-loop
-Inv-loop image slots name i₀ n₀ i n = (i < 4096) × (look slots image (rankNumber name) (4096 - n) i ≡ told slots image (rankNumber name))
+Inv-loop image slots name i₀ n₀ i n = (i < 4096) × (look slots image (rankNumber name) (64 - n) i ≡ told slots image (rankNumber name))
 
 abbrev μ-loop : tie.MeasureT-loop
-μ-loop image slots name i₀ n₀ i n = 4096 - n
+μ-loop image slots name i₀ n₀ i n = 64 - n
 
 loop-holds : tie.Need-loop-holds Inv-loop μ-loop
 unfolding told
 loop-holds c =
     let s = c .slot-of in
     let a = c .before .before .before .args in
-    (s .ensures .1, ap (look (a .slots .now) (a .image .now) (rankNumber (a .name)) 4096) (s .ensures .0))
+    (s .ensures .1, ap (look (a .slots .now) (a .image .now) (rankNumber (a .name)) 64) (s .ensures .0))
 
 cast-place : tie.Need-cast-place Inv-loop μ-loop
 cast-place c = omega (arith, c .shared-slice-known3 .given (c .before .before .loop .i))

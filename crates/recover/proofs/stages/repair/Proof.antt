@@ -1,55 +1,66 @@
 -- `recover::repair` meets its contract: each stage judges by the items found on the image as it stands. Assumes nothing.
-use mathlib.Core.Path.{sym, ap}
+use mathlib.Core.Path.{_≡_, sym, ap, _∙_}
+use mathlib.Core.Bool.{false}
 use Prim.Native.Nat.{ℕ, _/_}
 use native.Mathlib.Omega.{arith}
-use lib.ListN.{length-take}
 use lib.Seq.{length-take-le}
+use borrow.Author.Needs.{needs}
+use borrow.Author.Tests.{not-true}
 use Rattle.flash.specs.Did.{Did}
-use Rattle.answer.specs.declared.Stage.the-variants.{Duplicates}
+use Rattle.lists.specs.Lists.{some-of}
 use Rattle.table.specs.Table.{listed}
-use Rattle.found.specs.Found.{found}
+use Rattle.found.specs.Found.{Found, found, isPart}
+use Rattle.found.specs.Places.{Each, Placed}
 use Rattle.found.proofs.Finding.{items-found, found-placed}
 use Rattle.found.proofs.Lying.{lies-alike}
 use Rattle.blobs.specs.Blobs.{blobSteps}
-use Rattle.answer.proofs.Made.{made-tag}
-use Rattle.recover.proofs.Sequence.{blobs-stop, blobs-on}
-use borrow.Author.Needs.{needs}
+use Rattle.blobs.proofs.Parts.{no-step}
+use Rattle.recover.proofs.Sequence.{blobs-stop, blobs-on, no-blobs}
 use Rattle.recover.proofs.stages.repair.Statement.{statement}
 use Rattle.recover.proofs.stages.repair.Tie as tie
 
--- what stage 3 did is by the items found
-repaired : (c : tie.After-make-blobs) → let a = c .before .before .before .before .before .before .before .before .before .before .args in
-    Did (blobSteps (found (listed (a .lists)) (a .image .now))) (a .allowed) (a .image .now) (c .make-blobs .last .0) (c .make-blobs .result)
-repaired c =
-    let a = c .before .before .before .before .before .before .before .before .before .before in
-    rw (c .before .before .before .before .before .gather .ensures .0, items-found (a .args .image .now) (listed (a .args .lists)) (a .pre .3)) at (c .make-blobs .ensures .0)
+slice-aggregate-any-part : tie.Need-slice-aggregate-any-part
+slice-aggregate-any-part c = sym (length-take-le _ _ (omega (arith, c .before .before .before .before .gather .ensures .1, c .before .before .before .before .before .before .before .before .before .pre .4, c .before .before .before .room .given)))
 
-slice-aggregate-make-blobs : tie.Need-slice-aggregate-make-blobs
-slice-aggregate-make-blobs c = sym (length-take-le _ _ (omega arith))
+any-part-requires : tie.Need-any-part-requires
+any-part-requires c κs =
+    let a = c .before .before .before .before .before .before .before .before .before in
+    rw (c .before .before .before .before .gather .ensures .0) (found-placed (a .args .image .now) (listed (a .args .lists)) (a .pre .3))
+
+-- where there is no part, stage 3 has no step
+returns : tie.Need-returns
+returns c =
+    let a = c .before .before .before .before .before .before .before .before .before .before .before .before .before .before .before .before .before .before in
+    let l = a .args .image .now in
+    let ps = listed (a .args .lists) in
+    let none-here : some-of (λ (x : Found). isPart (x .raw)) (found ps l) ≡ false =
+    rw (c .before .before .before .before .before .before .before .before .before .before .before .before .before .gather .ensures .0, items-found l ps (a .pre .3)) at (sym (c .before .before .before .before .before .before .before .before .any-part .ensures) ∙ not-true _ (c .before .before .before .before .before .before .before .if1 .taken)) in
+    rw (no-blobs ps l (no-step (found ps l) none-here)) (c .before .before .before .before .repair-items .ensures)
 
 make-blobs-requires : tie.Need-make-blobs-requires
 make-blobs-requires c κs =
-    let a = c .before .before .before .before .before .before .before .before .before in
-    record { few = simp length-take (omega arith); each = rw (c .before .before .before .before .gather .ensures .0) (found-placed (a .args .image .now) (listed (a .args .lists)) (a .pre .3)) }
+    let a = c .before .before .before .before .before .before .before .before .before .before .before .before .before in
+    let g = c .before .before .before .before .before .before .before .before .gather .ensures in
+    (rw (g .0) (found-placed (a .args .image .now) (listed (a .args .lists)) (a .pre .3)), g .1, omega (arith, a .pre .4, c .before .before .before .before .before .before .before .room .given))
 
-returns : tie.Need-returns
-returns c = blobs-stop (listed (c .before .before .before .before .before .before .before .before .before .before .before .before .before .before .args .lists)) (repaired (c .before .before .before .before)) (c .enum-told .given .1)
-
-gather-requires-2 : tie.Need-gather-requires-2
-gather-requires-2 c κs =
-    let a = c .before .before .before .before .before .before .before .before .before .before .before .before .before .before .before .before .before in
-    (a .pre .0, a .pre .1, lies-alike (c .before .before .before .before .before .before .before .make-blobs .ensures .1) (listed (a .args .lists)) (a .pre .3), omega arith)
-
-duplicate-stage-requires : tie.Need-duplicate-stage-requires
-duplicate-stage-requires c κs =
-    let a = c .before .before .before .before .before .before .before .before .before .before .before .before .before .before .before .before .before .before .before .before .before .before in
-    let like = c .before .before .before .before .before .before .before .before .before .before .before .before .make-blobs .ensures .1 in
-    let sectors = ap (λ (x : ℕ). x / 4096) (like .size) in
-    let g = c .before .before .before .before .gather2 .ensures in
-    (a .pre .1, rw sectors (a .pre .2), lies-alike like (listed (a .args .lists)) (a .pre .3), g .0, g .1, omega arith)
+-- what stage 3 did is by the items found
+repaired : (c : tie.After-make-blobs) → let a = c .before .before .before .before .before .before .before .before .before .before .before .before .before .before .args in Did (blobSteps (found (listed (a .lists)) (a .image .now))) (a .allowed) (a .image .now) (c .make-blobs .last .0) (c .make-blobs .result)
+repaired c =
+    let a = c .before .before .before .before .before .before .before .before .before .before .before .before .before .before in
+    rw (c .before .before .before .before .before .before .before .before .before .gather .ensures .0, items-found (a .args .image .now) (listed (a .args .lists)) (a .pre .3)) at (c .make-blobs .ensures .0)
 
 returns-2 : tie.Need-returns-2
-returns-2 c = rw (c .in-stage .ensures) (blobs-on (listed (c .before .before .before .before .before .before .before .before .before .before .before .before .before .before .before .before .before .before .before .before .before .before .before .before .before .before .before .before .args .lists)) (repaired (c .before .before .before .before .before .before .before .before .before .before .before .before .before .before .before .before .before .before)) (c .before .before .before .before .before .before .before .before .before .before .before .before .before .before .r .given .1) (made-tag Duplicates (c .before .before .before .before .before .duplicate-stage .ensures)))
+returns-2 c = blobs-stop (listed (c .before .before .before .before .before .before .before .before .before .before .before .before .before .before .before .before .before .before .before .before .args .lists)) (repaired (c .before .before .before .before .before .before)) (c .enum-told .given .1)
+
+after-blobs-requires : tie.Need-after-blobs-requires
+after-blobs-requires c κs =
+    let a = c .before .before .before .before .before .before .before .before .before .before .before .before .before .before .before .before .before .before .before .before .before .before .before in
+    let like = c .before .before .before .before .before .before .before .before .before .make-blobs .ensures .1 in
+    let sectors = ap (λ (x : ℕ). x / 4096) (like .size) in
+    (a .pre .0, a .pre .1, rw sectors (a .pre .2), lies-alike like (listed (a .args .lists)) (a .pre .3), omega (arith, a .pre .4, c .before .before .before .before .before .before .before .before .before .before .before .before .before .before .before .before .before .room .given, c .before .before .before .before .before .before .room3 .given))
+
+returns-3 : tie.Need-returns-3
+returns-3 c = blobs-on (listed (c .before .before .before .before .before .before .before .before .before .before .before .before .before .before .before .before .before .before .before .before .before .before .before .before .before .before .before .before .args .lists)) (repaired (c .before .before .before .before .before .before .before .before .before .before .before .before .before .before)) (c .before .before .before .before .before .before .before .before .r .given .1) (c .before .before .before .before .after-blobs .ensures)
 
 pub repair-spec : {M : Type 1} → statement M
 repair-spec =
@@ -57,16 +68,19 @@ repair-spec =
     (tie.spec
     (λ c κs. search needs)
     (λ c. search needs)
-    slice-aggregate-make-blobs
+    slice-aggregate-any-part
+    any-part-requires
+    (λ c κs. search needs)
+    (λ c. search needs)
+    (λ c. search needs)
+    returns
     make-blobs-requires
     (λ c. search needs)
     (λ c. search needs)
     (λ c. search needs)
     (λ c. search needs)
-    returns
-    gather-requires-2
-    duplicate-stage-requires
-    (λ c κs. search needs)
+    returns-2
+    after-blobs-requires
     (λ c. search needs)
     (λ c. search needs)
-    returns-2)
+    returns-3)

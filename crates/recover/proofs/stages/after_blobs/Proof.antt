@@ -1,0 +1,27 @@
+-- `recover::after_blobs` meets its contract: where the quick test says yes, the last marks are the stage. Assumes nothing.
+use Rattle.table.specs.Table.{listed}
+use Rattle.recover.proofs.Sequence.{calm-last}
+use borrow.Author.Needs.{needs}
+use Rattle.recover.proofs.stages.after_blobs.Statement.{statement}
+use Rattle.recover.proofs.stages.after_blobs.Tie as tie
+
+returns : tie.Need-returns
+returns c =
+    let a = c .before .before .before .before .before .before .before .before .before .before .before .before .args in
+    let calm = c .before .before .before .before .before .before .before .is-calm .ensures (c .before .before .before .before .if1 .taken) in
+    rw (calm-last (listed (a .lists)) (a .image .now) calm) (c .before .before .close-full .ensures)
+
+pub after-blobs-spec : {M : Type 1} → statement M
+after-blobs-spec =
+    tie.close
+    (tie.spec
+    (λ c κs. search needs)
+    (λ c κs. search needs)
+    (λ c. search needs)
+    (λ c. search needs)
+    returns
+    (λ c κs. search needs)
+    (λ c κs. search needs)
+    (λ c. search needs)
+    (λ c. search needs)
+    (λ c. search needs))
