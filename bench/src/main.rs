@@ -1,6 +1,7 @@
 //! Times of the proved code beside those of the crate it is a port of, on the same images, in turn, in one run.
 mod crc;
 mod images;
+mod repairs;
 mod stack;
 
 use crc::{crc, entry_crc, header_crc};
@@ -167,11 +168,16 @@ fn entries_of(sectors: &[u8]) -> u32 {
     sectors.chunks(SECTOR).flat_map(items).map(entry_crc).fold(0, |x, y| x ^ y)
 }
 
+/// The stores that have something to repair, and the clean ones that they are held against.
+fn to_repair() -> impl Iterator<Item = (&'static str, Vec<u8>)> {
+    repairs::rows().into_iter().chain(repairs::worst())
+}
+
 /// The deepest stack of each call, beside the image.
 fn measure_stacks() {
     println!("deepest stack of a call, in bytes");
-    let more = to_repair().into_iter().map(|(what, image)| (what, image, recover as Call));
-    for (what, image, call) in more.chain([
+    let repairs = to_repair().map(|(what, image)| (what, image, recover as Call));
+    for (what, image, call) in repairs.chain([
         ("reclaim: 16 sectors, 100 items copied", to_reclaim(14), reclaim as Call),
         ("recovery: clean, 16 sectors, 1,900 items", settled_16(), recover),
         ("recovery: clean, 16 sectors, mixed", settled_mixed(), recover),
@@ -220,31 +226,6 @@ fn time_recoveries() {
         let limit = || headers_of(&image) ^ entries_of(&image);
         time_calls(what, &image, limit, Some(recover), None);
     }
-}
-
-/// Stores with something to repair.
-fn to_repair() -> Vec<(&'static str, Vec<u8>)> {
-    vec![
-        ("recovery: clean, 16 sectors, keys in no order", settled_stirred()),
-        ("recovery: clean, 16 sectors, 945 blobs", blobs(false)),
-        ("recovery: one item twice", one_doubled(false)),
-        ("recovery: one item twice, keys in no order", one_doubled(true)),
-        ("recovery: one unsound blob, 1,898 numbers", one_unsound()),
-        ("recovery: one unsound blob of 945", blobs(true)),
-        ("recovery: 882 items twice", doubled()),
-        ("recovery: 882 items twice, in no order", doubled_stirred()),
-        ("recovery: 1,008 items twice, in no order", doubled_most()),
-        ("recovery: 465 unsound blobs", unsound()),
-        ("recovery: 1,008 unsound blobs", unsound_most()),
-        ("recovery: 2,016 items of one key", one_key()),
-        ("recovery: 672 blobs under newer numbers", covered()),
-        ("recovery: 1,008 groups, two indices each", both_starts()),
-        ("recovery: 504 groups, two blobs each", both_whole()),
-        ("recovery: 2,016 chunks with no index", lone_chunks()),
-        ("recovery: one key, numbers and indices", one_key_mixed()),
-        ("recovery: clean, 2,016 names of one slot", flood()),
-        ("recovery: one unsound blob of 945, crowded", crowded()),
-    ]
 }
 
 fn time_readings() {

@@ -1,9 +1,8 @@
 -- A version is judged by its parts alone: others may be left out. Assumes nothing.
 use mathlib.Core.Path.{_≡_, refl, sym, ap, ap₂, _∙_}
-use mathlib.Core.Logic.{inl, inr}
 use mathlib.Core.Bool.{Bool, true, false, cond, _&&_, _||_}
 use mathlib.Core.Option.{Option, none, some}
-use mathlib.Core.List.{List, [], _∷_, _++_, flatMap}
+use mathlib.Core.List.{List, [], _++_, flatMap}
 use Prim.Native.Nat.{ℕ, _+_, _*_, _/_, _%_, _^_, _<_, _≤_}
 use native.Mathlib.Omega.{arith}
 use native.Mathlib.Nat.{mod-lt, div-add-mod'}
@@ -15,12 +14,12 @@ use Rattle.entry.proofs.Keys.{two-high, two-low}
 use Rattle.page.proofs.Tests.{both-first, both-second}
 use Rattle.flash.specs.Step.{Step}
 use Rattle.item.specs.Erase.{erasing}
-use Rattle.lists.specs.Lists.{keep, sumOf, best}
+use Rattle.lists.specs.Lists.{keep, best}
 use Rattle.lists.proofs.Member.{_∈_, true≢false, refuted}
 use Rattle.lists.proofs.Search.{keep-none, best-none}
 use Rattle.found.specs.Found.{Found, newer, isChunk, isIndex, isPart, startIn, versionOf, groupOf, indexOf, chunkOf, chunks, eraseAll}
 use Rattle.found.proofs.Ranking.{start-le}
-use Rattle.sort.proofs.Keeping.{keep-within, sum-within}
+use Rattle.lists.proofs.Keeping.{keep-within, sum-within}
 use Rattle.blobs.specs.Blobs.{indices, counting, sizeIn, sound, dropVersion, judgeWith, judge, versionIn, soundOne, bothSound, dropCounting, olderWith, older}
 
 or-left : (a b : Bool) → a ≡ true → (a || b) ≡ true

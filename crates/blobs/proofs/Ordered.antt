@@ -3,28 +3,27 @@ use mathlib.Core.Path.{_≡_, refl, sym, ap, ap₂, subst, _∙_}
 use mathlib.Core.Logic.{_⊎_, inl, inr, ⊎-elim}
 use mathlib.Core.Bool.{Bool, true, false, cond, _&&_, _||_}
 use mathlib.Core.List.{List, [], _∷_, _++_, map, flatMap}
-use Prim.Native.Nat.{ℕ, suc, _+_, _-_, _*_, _/_, _%_, _^_, _<_, _≤_}
+use Prim.Native.Nat.{ℕ, suc, _+_, _*_, _/_, _%_, _^_, _<_, _≤_}
 use native.Mathlib.Omega.{arith}
 use native.Mathlib.Nat.{mod-lt, div-add-mod', mul-assoc, mul-le-mul-right, le-div-iff-mul-le, div-mul-le-self}
 use lib.Arith.{digits-lt, digits-div, digits-mod}
 use lib.Dec.{eqb, ltb, lit<}
 use borrow.Author.Tests.{eqb-true, eq-eqb}
 use Rattle.entry.specs.Fields.{namespaceOf, keyOf, keyNumber, chunkIndexOf, indexStart}
-use Rattle.page.proofs.Tests.{both-first, both-second}
 use Rattle.flash.specs.Step.{Step}
 use Rattle.lists.specs.Lists.{keep, sortBy, ascending}
-use Rattle.lists.proofs.Member.{_∈_, refuted, in-left, in-right, in-append}
+use Rattle.lists.proofs.Member.{_∈_, in-left, in-right, in-append}
 use Rattle.lists.proofs.Search.{keep-in, in-keep, keep-both}
-use Rattle.lists.proofs.Sorting.{sort-in}
-use Rattle.lists.proofs.Maps.{in-map, map-in, flatMap-ext, flatMap-append, in-flatMap, flatMap-in}
+use Rattle.lists.proofs.Sorting.{sort-in, in-sort}
+use Rattle.lists.proofs.Maps.{in-map, map-in, flatMap-ext, flatMap-append, in-flatMap}
 use Rattle.lists.proofs.Ascending.{ascending-in, in-ascending}
 use Rattle.found.specs.Found.{Found, isChunk, isIndex, isPart, startIn, versionOf, groupOf}
-use Rattle.found.proofs.Ranking.{start-le}
-use Rattle.sort.specs.Rank.{groupBy, below}
-use Rattle.sort.specs.Runs.{runs}
-use Rattle.sort.proofs.Climbing.{Climbs, climb-above, ascending-climbs, climb-more, ascending-more}
-use Rattle.sort.proofs.Running.{only, Rises, sort-rises, in-sort, only-sorted, runs-rising, runs-sorted}
-use Rattle.sort.proofs.Keeping.{keep-within, flatMap-map}
+use Rattle.sort.specs.Rank.{groupBy}
+use Rattle.lists.specs.Merge.{below}
+use Rattle.lists.specs.Runs.{runs}
+use Rattle.lists.proofs.Climbing.{Climbs, climb-above, ascending-climbs, climb-more, ascending-more}
+use Rattle.lists.proofs.Running.{only, Rises, sort-rises, only-sorted, runs-rising, runs-sorted}
+use Rattle.lists.proofs.Keeping.{keep-within, flatMap-map}
 use Rattle.blobs.specs.Blobs.{versionIn, judge, older}
 use Rattle.blobs.specs.Runs.{headGroup, spaceBy, startSteps, spaceSteps, olderSteps}
 use Rattle.blobs.proofs.Near.{Near, version-near, judge-near, older-near, judge-none, older-none}

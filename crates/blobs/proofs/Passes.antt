@@ -1,18 +1,20 @@
 -- A pass over the runs of places that stay, while the image changes. Assumes nothing.
-use mathlib.Core.Path.{_≡_, refl, sym, ap, ap₂, _∙_}
-use mathlib.Core.List.{List, [], _∷_, _++_, flatMap}
-use Prim.Native.Nat.{ℕ, suc, _+_, _-_, _≤_, _<_}
+use mathlib.Core.Path.{_≡_, sym, ap, ap₂, _∙_}
+use mathlib.Core.List.{List, [], _++_, flatMap}
+use Prim.Native.Nat.{ℕ, _-_, _≤_}
 use native.Mathlib.Omega.{arith}
 use lib.ListN.{length, take, drop, getD, length-take, length-drop, drop-of-length-le}
 use lib.Seq.{slice-cons}
 use Rattle.flash.specs.Step.{Step}
 use Rattle.found.specs.Found.{Found}
-use Rattle.found.specs.Places.{itemAt, itemsAt, Each, Placed, Alike}
+use Rattle.found.specs.Places.{itemAt, itemsAt, Placed, Alike}
+use Rattle.lists.specs.Each.{Each}
 use Rattle.found.proofs.Alike.{item-alike, items-alike, each-alike}
-use Rattle.found.proofs.Each.{each-take, each-at}
+use Rattle.lists.proofs.Each.{each-take, each-at, each-drop}
 use Rattle.sort.specs.Rank.{groupBy}
-use Rattle.sort.specs.Runs.{runs, RunEnds}
-use Rattle.sort.proofs.Passing.{drop-take, each-drop}
+use Rattle.sort.specs.Runs.{RunEnds}
+use Rattle.lists.specs.Runs.{runs}
+use Rattle.lists.proofs.Parts.{drop-take}
 use Rattle.blobs.specs.Search.{Gathered}
 use Rattle.blobs.specs.Runs.{headGroup}
 

@@ -5,7 +5,7 @@ use Rattle.entry.specs.Fields.{namespaceOf}
 use Rattle.flash.specs.Step.{Step}
 use Rattle.found.specs.Found.{Found}
 use Rattle.sort.specs.Rank.{groupBy}
-use Rattle.sort.specs.Runs.{runs}
+use Rattle.lists.specs.Runs.{runs}
 use Rattle.blobs.specs.Blobs.{versionIn, judge, older}
 
 -- the group of a run, and the namespace of an item

@@ -1,18 +1,16 @@
 -- What the code of stage 3 answers while it judges, item by item. Assumes nothing.
 use mathlib.Core.Bool.{Bool, cond, _||_}
 use mathlib.Core.Option.{Option, none, some}
-use mathlib.Core.List.{List, []}
+use mathlib.Core.List.{List}
 use Prim.Native.Nat.{ℕ, _≤_}
 use lib.ListN.{length}
-use Rattle.flash.specs.Step.{Step}
 use Rattle.lists.specs.Lists.{keep, better, best}
-use Rattle.found.specs.declared.ranks.Pass.{Pass}
-use Rattle.found.specs.declared.ranks.Pass.the-variants.{Parts, Indices, Items}
 use Rattle.found.specs.Found.{Found, newer, indexOf}
-use Rattle.found.specs.Places.{itemAt, Each, Placed}
+use Rattle.found.specs.Places.{itemAt, Placed}
+use Rattle.lists.specs.Each.{Each}
 use Rattle.blobs.specs.declared.versions.Newest.{Newest}
 use Rattle.blobs.specs.declared.versions.Newest.the-variants.{At, Nothing}
-use Rattle.blobs.specs.Blobs.{counting, soundOne, judge, older}
+use Rattle.blobs.specs.Blobs.{counting, soundOne}
 
 -- the places that a stage works on
 pub record Gathered (l places : List ℕ) : Type 0 where
@@ -42,9 +40,3 @@ newestWith v w x o = cond (indexOfEither v w (x .raw)) (some (better newer x o))
 -- the index that counts, where the version is sound
 unfoldable pub soundIndex : ℕ → List Found → Option Found
 soundIndex v fs = cond (soundOne v fs (counting v fs)) (counting v fs) none
-
--- what a pass makes of each number: stage 4 takes the items themselves
-unfoldable pub stepsIn : Pass → List Found → ℕ → List Step
-stepsIn Parts fs v = judge fs v
-stepsIn Indices fs g = older fs g
-stepsIn Items fs g = []

@@ -1,10 +1,9 @@
 // A version's items erased.
 use flash::Ran;
 use found::Rank;
-ghost use Prim.Native.Nat.{_≤_};
-ghost use lib.ListN.{length};
 ghost use Rattle.flash.specs.Did.{Did};
-ghost use Rattle.found.specs.Places.{itemAt, itemsAt, Each, Placed, Alike};
+ghost use Rattle.found.specs.Places.{itemAt, itemsAt, Placed, Alike};
+ghost use Rattle.lists.specs.Each.{Each};
 ghost use Rattle.found.specs.Ranks.{rankNumber};
 ghost use Rattle.blobs.specs.Blobs.{dropVersion};
 

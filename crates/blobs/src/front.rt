@@ -4,7 +4,8 @@ ghost use Prim.Native.Nat.{ℕ, _≤_};
 ghost use lib.ListN.{length, take};
 ghost use Rattle.lists.specs.Lists.{keep};
 ghost use Rattle.found.specs.Found.{isPart};
-ghost use Rattle.found.specs.Places.{itemAt, Each, Placed};
+ghost use Rattle.found.specs.Places.{itemAt, Placed};
+ghost use Rattle.lists.specs.Each.{Each};
 
 // Of the first `n` places those of parts, put in front, in order. Answers how many.
 pub fn keep_parts(image: &[u8], room: &mut [u16], n: usize) -> usize

@@ -1,12 +1,11 @@
 // A version: the index that counts, and whether its chunks are as the index says.
 use found::Rank;
 ghost use mathlib.Core.Path.{_≡_};
-ghost use Prim.Native.Nat.{_≤_};
-ghost use lib.ListN.{length};
 ghost use Rattle.entry.specs.States.{one};
 ghost use Rattle.lists.specs.Lists.{sumOf};
 ghost use Rattle.found.specs.Found.{Found, chunkOf};
-ghost use Rattle.found.specs.Places.{itemAt, itemsAt, Each, Placed};
+ghost use Rattle.found.specs.Places.{itemAt, itemsAt, Placed};
+ghost use Rattle.lists.specs.Each.{Each};
 ghost use Rattle.found.specs.Ranks.{rankNumber};
 ghost use Rattle.blobs.specs.Blobs.{sizeIn, sound};
 ghost use Rattle.blobs.specs.Search.{Gathered, newestOf, PlacedAt, indexOfEither, newest, newestWith, soundIndex};

@@ -21,7 +21,8 @@ use Rattle.table.specs.Table.{itemsIn, inSector}
 use Rattle.table.specs.Placed.{timesIn, Placed}
 use Rattle.table.proofs.Places.{one-le}
 use Rattle.found.specs.Found.{Found, found, foundOn}
-use Rattle.found.specs.Places.{placeOf, itemAt, Each, Lies}
+use Rattle.found.specs.Places.{placeOf, itemAt, Lies}
+use Rattle.lists.specs.Each.{Each}
 use Rattle.found.proofs.Finding.{foundAs, items-found}
 use Rattle.found.proofs.Keys.{item-key}
 use Rattle.duplicates.specs.Duplicates.{samePlace}

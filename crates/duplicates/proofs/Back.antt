@@ -1,6 +1,6 @@
 -- A list of places gone through from its end on. Assumes nothing.
 use mathlib.Core.Path.{_≡_, ap, _∙_}
-use mathlib.Core.Bool.{Bool, true, false, cond}
+use mathlib.Core.Bool.{Bool, true, false}
 use mathlib.Core.List.{List, _∷_}
 use Prim.Native.Nat.{ℕ, _+_, _-_, _≤_, _<_}
 use native.Mathlib.Omega.{arith}
@@ -11,7 +11,7 @@ use Rattle.lists.proofs.Maps.{in-map}
 use Rattle.found.specs.Found.{Found}
 use Rattle.found.specs.Places.{itemAt, itemsAt}
 use Rattle.found.proofs.Reading.{items-more}
-use Rattle.found.proofs.Each.{each-at, each-of}
+use Rattle.lists.proofs.Each.{each-at, each-of}
 
 module _ (l ps : List ℕ) (i : ℕ) (some : 0 < i) (upto : i ≤ length ps) where
   pub items-back : itemsAt l (drop (i - 1) ps) ≡ itemAt l (getD ps (i - 1) 0) ∷ itemsAt l (drop i ps)

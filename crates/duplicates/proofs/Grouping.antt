@@ -21,7 +21,7 @@ use Rattle.found.specs.Found.{Found, isChunk, isIndex, startIn, versionOf, grou
 use Rattle.duplicates.specs.Duplicates.{ranked, members, olderThan, withChunks, outdated, samePlace, onceEach}
 use Rattle.duplicates.specs.Turns.{indexFrom, takesChunks, oldOne, oldOnce, oldWith, oldOf}
 use Rattle.duplicates.proofs.Once.{fresh, fresh-none, fresh-end, fresh-item, once-alone, fresh-append, once-append, Once, once-fewer, same-self, once-other, once-only, once-same}
-use Rattle.duplicates.proofs.Versions.{version-tells, version-of}
+use Rattle.found.proofs.Versions.{version-tells, version-of}
 
 -- the items stand at different places, and their keys are of bytes
 pub record Apart (fs : List Found) : Type 0 where

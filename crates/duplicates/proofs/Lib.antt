@@ -1,9 +1,6 @@
-pub mod Sorted
-pub mod Room
 pub mod Taking
 pub mod Marking
 pub mod Once
-pub mod Versions
 pub mod Grouping
 pub mod Groups
 pub mod Apart

@@ -1,33 +1,33 @@
 -- What goes of a group is told by the items of the group alone. Assumes nothing.
 use mathlib.Core.Path.{_≡_, refl, sym, ap, ap₂, _∙_}
 use mathlib.Core.Logic.{inl, inr}
-use mathlib.Core.Bool.{Bool, true, false, cond, not, _&&_}
+use mathlib.Core.Bool.{Bool, true, false, cond, _&&_}
 use mathlib.Core.Option.{Option, none, some}
 use mathlib.Core.List.{List, [], _∷_, _++_, map, flatMap, getLast?, dropLast}
 use Prim.Native.Nat.{ℕ, _^_, _<_, _≤_}
 use native.Mathlib.Omega.{arith}
-use lib.Dec.{eqb, leb}
+use lib.Dec.{eqb}
 use lib.ListN.{length}
-use borrow.Author.Tests.{not-true, eqb-true, eq-eqb}
-use Rattle.entry.specs.Fields.{namespaceOf, keyOf, keyNumber}
+use borrow.Author.Tests.{eqb-true, eq-eqb}
+use Rattle.entry.specs.Fields.{keyOf, keyNumber}
 use Rattle.page.proofs.Tests.{both-first, both-second}
-use Rattle.flash.specs.Step.{Step}
 use Rattle.lists.specs.Lists.{keep, sortBy, ascending}
-use Rattle.lists.proofs.Member.{_∈_, true≢false, refuted}
+use Rattle.lists.proofs.Member.{_∈_, refuted}
 use Rattle.lists.proofs.Search.{keep-in, in-keep, keep-none, keep-both}
 use Rattle.lists.proofs.Sorting.{sort-in, length-sort, dropLast-short}
 use Rattle.lists.proofs.Maps.{in-map, map-in, flatMap-ext}
 use Rattle.lists.proofs.Out.{dropLast-in}
 use Rattle.found.specs.Found.{Found, isChunk, versionOf, groupOf, chunkOf, chunks, eraseAll}
-use Rattle.sort.specs.Rank.{groupBy, below}
-use Rattle.sort.specs.Runs.{runs}
-use Rattle.sort.proofs.Climbing.{ascending-more}
-use Rattle.sort.proofs.Running.{only, runs-sorted}
-use Rattle.sort.proofs.Keeping.{keep-within, flatMap-map}
+use Rattle.sort.specs.Rank.{groupBy}
+use Rattle.lists.specs.Merge.{below}
+use Rattle.lists.specs.Runs.{runs}
+use Rattle.lists.proofs.Climbing.{ascending-more}
+use Rattle.lists.proofs.Running.{only, runs-sorted}
+use Rattle.lists.proofs.Keeping.{keep-within, flatMap-map}
 use Rattle.duplicates.specs.Duplicates.{ranked, members, olderThan, groups}
 use Rattle.duplicates.specs.Turns.{oldOne, oldOnce, oldWith, oldOf, takesChunks, groupSteps}
 use Rattle.duplicates.specs.Runs.{runSteps}
-use Rattle.duplicates.proofs.Versions.{version-tells}
+use Rattle.found.proofs.Versions.{version-tells}
 
 -- ---- the items that chunks are taken from
 module _ (fs gs : List Found) where

@@ -1,31 +1,30 @@
 -- A run of places: the items of one group, and what goes of them. Assumes nothing.
-use mathlib.Core.Path.{_≡_, refl, sym, ap, _∙_}
-use mathlib.Core.Logic.{inl, inr}
-use mathlib.Core.Bool.{Bool, true, false, cond, not, _&&_}
-use mathlib.Core.List.{List, [], _∷_, _++_, map}
-use Prim.Native.Nat.{ℕ, suc, _+_, _-_, _*_, _^_, _≤_, _<_}
+use mathlib.Core.Path.{_≡_, ap, _∙_}
+use mathlib.Core.Bool.{Bool, true, false, cond, not}
+use mathlib.Core.List.{List, [], _∷_}
+use Prim.Native.Nat.{ℕ, suc, _-_, _^_, _≤_, _<_}
 use native.Mathlib.Omega.{arith}
 use lib.Dec.{leb}
-use lib.ListN.{length, take, drop, getD, length-take, length-drop, length-map}
+use lib.ListN.{length, take, drop, getD, length-drop}
 use lib.Seq.{take-all}
 use borrow.Author.Tests.{lt-leb}
 use Rattle.entry.specs.Fields.{namespaceOf, keyOf, keyNumber}
 use Rattle.entry.proofs.Keys.{two-high}
 use Rattle.page.proofs.Tests.{both-second}
-use Rattle.flash.specs.Step.{Step}
 use Rattle.lists.specs.Lists.{keep, sortBy}
 use Rattle.lists.proofs.Member.{_∈_, refuted, true≢false}
 use Rattle.lists.proofs.Maps.{map-in}
 use Rattle.lists.proofs.Search.{keep-none}
-use Rattle.lists.proofs.Sorting.{length-sort}
 use Rattle.found.specs.Found.{Found, isChunk, groupOf}
-use Rattle.found.specs.Places.{itemAt, itemsAt, Each}
-use Rattle.found.proofs.Each.{of-each}
+use Rattle.found.specs.Places.{itemAt, itemsAt}
+use Rattle.lists.specs.Each.{Each}
+use Rattle.lists.proofs.Each.{of-each}
 use Rattle.found.proofs.Keys.{item-key}
 use Rattle.sort.specs.declared.choice.Order.the-variants.{Age}
-use Rattle.sort.specs.Rank.{groupBy, rankBy, rankAt, ageOf, below}
+use Rattle.sort.specs.Rank.{groupBy, rankBy, rankAt, ageOf}
+use Rattle.lists.specs.Merge.{below}
 use Rattle.sort.proofs.Aging.{entry-few}
-use Rattle.sort.proofs.Mapping.{map-sort}
+use Rattle.lists.proofs.Mapping.{map-sort}
 use Rattle.duplicates.specs.Duplicates.{ranked}
 use Rattle.duplicates.specs.Runs.{runSteps, agedSteps}
 use Rattle.duplicates.proofs.Local.{run-short}

@@ -1,18 +1,19 @@
 -- The runs that are left, while the image and the places before them change. Assumes nothing.
-use mathlib.Core.Path.{_≡_, refl, sym, ap, ap₂, _∙_}
+use mathlib.Core.Path.{_≡_, sym, ap, ap₂, _∙_}
 use mathlib.Core.List.{List, [], _∷_, _++_, flatMap}
 use Prim.Native.Nat.{ℕ, _+_, _-_, _≤_, _<_}
 use native.Mathlib.Omega.{arith}
-use lib.ListN.{length, take, drop, getD, length-take, drop-of-length-le}
+use lib.ListN.{take, drop, getD, length-take, drop-of-length-le}
 use lib.Seq.{take-take, drop-drop, getD-take}
-use Rattle.flash.specs.Step.{Step}
 use Rattle.found.specs.Found.{Found}
-use Rattle.found.specs.Places.{itemAt, itemsAt, Each, Placed, Alike}
+use Rattle.found.specs.Places.{itemAt, itemsAt, Placed, Alike}
+use Rattle.lists.specs.Each.{Each}
 use Rattle.found.proofs.Alike.{items-alike, each-alike}
-use Rattle.found.proofs.Each.{each-take}
+use Rattle.lists.proofs.Each.{each-take, each-drop}
 use Rattle.sort.specs.Rank.{groupBy}
-use Rattle.sort.specs.Runs.{runs, RunEnds}
-use Rattle.sort.proofs.Passing.{drop-take, each-drop}
+use Rattle.sort.specs.Runs.{RunEnds}
+use Rattle.lists.specs.Runs.{runs}
+use Rattle.lists.proofs.Parts.{drop-take}
 use Rattle.duplicates.specs.Runs.{runSteps}
 
 module _ (L l t s : List ℕ) (n a : ℕ) (like : Alike L l) (kept : drop a (take n s) ≡ drop a (take n t)) (each : Each (Placed L) (take n t)) where

@@ -14,9 +14,8 @@ use Rattle.lists.proofs.Maps.{flatMap-append}
 use Rattle.lists.proofs.Sorting.{dropLast-short}
 use Rattle.found.specs.Found.{Found, isIndex, startIn, versionOf, chunks, eraseAll}
 use Rattle.found.specs.Places.{itemAt, itemsAt}
-use Rattle.found.proofs.Reading.{items-more}
+use Rattle.found.proofs.Reading.{items-more, items-front}
 use Rattle.duplicates.specs.Turns.{indexFrom, takesChunks, oldOne, oldOnce, oldWith, oldOf, lastAt}
-use Rattle.duplicates.proofs.Sorted.{items-front}
 
 -- ---- whether an old item takes its chunks with it
 module _ (before : List Found) (k x : Found) where

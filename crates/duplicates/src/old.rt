@@ -6,7 +6,8 @@ ghost use lib.ListN.{length, take, getD};
 ghost use Rattle.flash.specs.Did.{Did};
 ghost use Rattle.lists.specs.Lists.{some-of};
 ghost use Rattle.found.specs.Found.{Found, eraseAll};
-ghost use Rattle.found.specs.Places.{itemAt, itemsAt, Each, Placed, Alike};
+ghost use Rattle.found.specs.Places.{itemAt, itemsAt, Placed, Alike};
+ghost use Rattle.lists.specs.Each.{Each};
 ghost use Rattle.duplicates.specs.Turns.{indexFrom, takesChunks, oldOne, oldOf, lastAt};
 
 // Whether the item at `place` is a blob index of the given start.

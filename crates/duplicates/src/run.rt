@@ -8,7 +8,8 @@ ghost use lib.ListN.{length, take, drop, getD};
 ghost use Rattle.flash.specs.Did.{Did};
 ghost use Rattle.lists.specs.Lists.{keep};
 ghost use Rattle.found.specs.Found.{Found, isChunk};
-ghost use Rattle.found.specs.Places.{itemAt, itemsAt, Each, Placed, Alike};
+ghost use Rattle.found.specs.Places.{itemAt, itemsAt, Placed, Alike};
+ghost use Rattle.lists.specs.Each.{Each};
 ghost use Rattle.sort.specs.Rank.{groupBy};
 ghost use Rattle.duplicates.specs.Runs.{runSteps, agedSteps};
 

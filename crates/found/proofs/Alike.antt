@@ -1,5 +1,5 @@
 -- An erasure changes entry states alone, so each item stands where it stood and says what it said. Assumes nothing.
-use mathlib.Core.Path.{_≡_, refl, sym, ap, _∙_}
+use mathlib.Core.Path.{_≡_, refl, ap, _∙_}
 use mathlib.Core.Logic.{_⊎_, inl, inr, ⊎-elim}
 use mathlib.Core.List.{List, [], _∷_}
 use Prim.Native.Nat.{ℕ, _+_, _*_, _/_, _%_, _<_, _≤_}
@@ -14,7 +14,8 @@ use Rattle.flash.proofs.Every.{every-take}
 use Rattle.flash.proofs.Frame.{In, Outside, length-run, part-same, run-other}
 use Rattle.item.specs.Erase.{erasing}
 use Rattle.item.proofs.Spans.{unmarking-in}
-use Rattle.found.specs.Places.{itemAt, itemsAt, Each, Placed, Alike}
+use Rattle.found.specs.Places.{itemAt, itemsAt, Placed, Alike}
+use Rattle.lists.specs.Each.{Each}
 use Rattle.found.proofs.Lying.{sequence-same}
 
 pub alike-refl : (l : List ℕ) → Alike l l

@@ -13,8 +13,9 @@ use Rattle.page.proofs.Walking.{item-span}
 use Rattle.table.specs.declared.Page.{Page}
 use Rattle.table.specs.Table.{itemsIn, sequence}
 use Rattle.found.specs.Found.{Found, found, foundOn}
-use Rattle.found.specs.Places.{placeOf, itemAt, itemsAt, Each, Lies, Placed}
-use Rattle.found.proofs.Each.{each-append}
+use Rattle.found.specs.Places.{placeOf, itemAt, itemsAt, Lies, Placed}
+use Rattle.lists.specs.Each.{Each}
+use Rattle.lists.proofs.Each.{each-append}
 
 -- an item of the page, with its page
 abbrev pub foundAs : Page → Laid → Found

@@ -1,9 +1,8 @@
-pub mod Each
 pub mod Reading
 pub mod Alike
 pub mod Finding
 pub mod Ranking
-pub mod Searching
+pub mod Versions
 pub mod Erasing
 pub mod Lying
 pub mod Keys

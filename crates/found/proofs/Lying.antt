@@ -9,14 +9,14 @@ use Rattle.word.specs.Number.{part, le}
 use Rattle.word.proofs.Bytes.{le-part}
 use Rattle.flash.specs.Step.{sector}
 use Rattle.flash.proofs.Frame.{part-same}
-use Rattle.page.specs.State.{sequenceOf}
 use Rattle.lists.proofs.Member.{_∈_}
 use Rattle.table.specs.declared.Page.{Page}
 use Rattle.table.specs.Table.{sequence, sectorsOf, pages}
 use Rattle.table.proofs.Pages.{pages-in}
 use Rattle.table.proofs.Records.{record-sequence}
-use Rattle.found.specs.Places.{Each, Lies, Alike}
-use Rattle.found.proofs.Each.{each-of, of-each}
+use Rattle.found.specs.Places.{Lies, Alike}
+use Rattle.lists.specs.Each.{Each}
+use Rattle.lists.proofs.Each.{each-of, of-each}
 
 module _ (l m : List ℕ) (size : length m ≡ length l) (same : (j : ℕ) → 4 ≤ j % 4096 → j % 4096 < 8 → getD m j 0 ≡ getD l j 0) where
   pub sequence-same : (u : ℕ) → le (sector u m) 4 4 ≡ le (sector u l) 4 4

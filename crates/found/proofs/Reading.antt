@@ -1,13 +1,13 @@
 -- What an item says is read off the 32 bytes at its place, with which its bytes begin. Assumes nothing.
 use mathlib.Core.Path.{_≡_, refl, sym, ap, _∙_}
 use mathlib.Core.Bool.{Bool, true, false}
-use mathlib.Core.List.{List, [], _∷_}
+use mathlib.Core.List.{List, [], _∷_, _++_, map-append}
 use Prim.Native.Nat.{ℕ, _+_, _-_, _*_, _%_, _<_, _≤_}
 use native.Mathlib.Omega.{arith}
 use native.Mathlib.Numerals.{add-one}
 use lib.Dec.{lit≤, leb}
-use lib.ListN.{length, drop, getD, drop-of-length-le}
-use lib.Seq.{drop-cons}
+use lib.ListN.{length, take, drop, getD, drop-of-length-le}
+use lib.Seq.{take-suc, drop-cons}
 use borrow.Author.Tests.{leb-true, leb-false, le-leb, lt-leb}
 use Rattle.word.specs.Number.{part, le}
 use Rattle.word.proofs.Bytes.{part-byte, le-part, be-part}
@@ -49,3 +49,7 @@ module _ (l ps : List ℕ) where
 
   pub items-end : (i : ℕ) → length ps ≤ i → itemsAt l (drop i ps) ≡ []
   items-end i h = ap (itemsAt l) (drop-of-length-le ps h)
+
+  -- one place more at the end of the front
+  pub items-front : (i : ℕ) → i < length ps → itemsAt l (take (i + 1) ps) ≡ itemsAt l (take i ps) ++ (itemAt l (getD ps i 0) ∷ [])
+  items-front i h = rw (add-one i) (ap (itemsAt l) (take-suc ps i 0 h) ∙ map-append (itemAt l) (take i ps) (getD ps i 0 ∷ []))

@@ -2,7 +2,7 @@
 -- are read at it. Assumes nothing.
 use mathlib.Core.Path.{_≡_}
 use mathlib.Core.Logic.{_⊎_}
-use mathlib.Core.List.{List, [], _∷_, map}
+use mathlib.Core.List.{List, map}
 use Prim.Native.Nat.{ℕ, _+_, _-_, _*_, _/_, _%_, _<_, _≤_}
 use lib.ListN.{length, getD}
 use Rattle.word.specs.Number.{part}
@@ -28,11 +28,6 @@ itemAt l p =
 
 abbrev pub itemsAt : List ℕ → List ℕ → List Found
 itemsAt l places = map (itemAt l) places
-
--- each member of a list
-unfoldable pub Each : {A : Type 0} → (A → Type 0) → List A → Type 0
-Each P [] = Unit {0}
-Each P (x ∷ xs) = P x × Each P xs
 
 -- the page lies in the image, and its list tells the sequence that stands there
 pub record Lies (l : List ℕ) (p : Page) : Type 0 where

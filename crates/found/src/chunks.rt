@@ -10,7 +10,8 @@ use flash::Ran;
 ghost use mathlib.Core.Path.{_≡_};
 ghost use Rattle.flash.specs.Did.{Did};
 ghost use Rattle.found.specs.Found.{chunkOf, chunks, eraseAll};
-ghost use Rattle.found.specs.Places.{itemAt, itemsAt, Each, Placed, Alike};
+ghost use Rattle.found.specs.Places.{itemAt, itemsAt, Placed, Alike};
+ghost use Rattle.lists.specs.Each.{Each};
 ghost use Rattle.found.specs.Ranks.{rankNumber};
 
 pub fn is_chunk_of(image: &[u8], place: usize, v: Rank) -> bool

@@ -7,7 +7,8 @@ ghost use lib.ListN.{length, take, getD};
 ghost use Rattle.crc.specs.Table.{crcTable};
 ghost use Rattle.table.specs.Table.{listed, Sized};
 ghost use Rattle.found.specs.Found.{found};
-ghost use Rattle.found.specs.Places.{placeOf, Each, Lies};
+ghost use Rattle.found.specs.Places.{placeOf, Lies};
+ghost use Rattle.lists.specs.Each.{Each};
 
 // The places of all items found, in list order, then entry order, into `out`. Answers how many.
 pub fn gather(t: &[u32; 324], image: &[u8], table: Table, out: &mut [u16]) -> usize

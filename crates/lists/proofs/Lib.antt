@@ -6,3 +6,12 @@ pub mod Out
 pub mod Ascending
 pub mod Sorting
 pub mod Range
+pub mod Each
+pub mod Parts
+pub mod Keeping
+pub mod Merges
+pub mod Parting
+pub mod Climbing
+pub mod Running
+pub mod Mapping
+pub mod Below

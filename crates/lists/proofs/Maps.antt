@@ -63,3 +63,7 @@ module _ {A B : Type 0} where
   unfolding flatMap
   flatMap-in g [] z m = absurd m
   flatMap-in g (x ∷ xs) z m = ⊎-elim (λ n. (x, inl refl, n)) (λ n. let r = flatMap-in g xs z n in (r .0, inr (r .1), r .2)) (in-append z (g x) (flatMap g xs) m)
+
+pub map-ext : {A B : Type 0} (g h : A → B) (xs : List A) → ((y : A) → y ∈ xs → g y ≡ h y) → map g xs ≡ map h xs
+map-ext g h [] e = refl
+map-ext {A} {B} g h (x ∷ xs) e = ap₂ (λ (a : B) (r : List B). a ∷ r) (e x (inl refl)) (map-ext g h xs (λ y m. e y (inr m)))

@@ -1,1 +1,4 @@
 pub mod Lists
+pub mod Each
+pub mod Merge
+pub mod Runs

@@ -25,7 +25,7 @@ use Rattle.duplicates.specs.Duplicates.{duplicateSteps, groups, members, olderT
 use Rattle.quick.specs.Calm.{Calm, inGroup, partOf, tot}
 use Rattle.quick.proofs.Idle.{erase-some, eraseAll-none}
 use Rattle.quick.proofs.Counts.{length-keep, length-one, one-le, one-true, pos-in}
-use Rattle.duplicates.proofs.Versions.{groupIn, version-group}
+use Rattle.found.proofs.Versions.{groupIn, version-group}
 use Rattle.quick.proofs.Versions.{index-not-chunk, index-part, pow-pos, split-in, versionIn-ne}
 
 -- the items are made of bytes, and none of namespace 0 is a blob part

@@ -28,9 +28,9 @@ use Rattle.quick.specs.Names.{chunkName, chunkNumber, judged, nameOf}
 use Rattle.quick.specs.Slots.{EachSlot, rawAt, told}
 use Rattle.quick.specs.Fits.{Fits, Led, Named, called, toldRaw}
 use Rattle.quick.proofs.Counts.{one-le, one-true, pos-in, sum-only}
-use Rattle.found.proofs.Each.{of-each}
+use Rattle.lists.proofs.Each.{of-each}
 use Rattle.found.proofs.Keys.{key-lt}
-use Rattle.duplicates.proofs.Versions.{groupIn, version-group}
+use Rattle.found.proofs.Versions.{groupIn, version-group}
 use Rattle.quick.proofs.Versions.{index-not-chunk, index-part, pow-pos, split-in, versionIn-ne}
 use Rattle.quick.proofs.Idle.{calm-same}
 use Rattle.quick.proofs.Looking.{told-name, told-slot}

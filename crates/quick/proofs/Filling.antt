@@ -16,8 +16,9 @@ use Rattle.lists.specs.Lists.{some-of, sumOf}
 use Rattle.lists.proofs.Member.{_∈_, in-left, in-right, true≢false}
 use Rattle.lists.proofs.Search.{some-in, some-is}
 use Rattle.lists.proofs.Sums.{sum-append, sum-zero}
-use Rattle.found.specs.Places.{Each, Placed}
-use Rattle.found.proofs.Each.{each-append, each-of, of-each}
+use Rattle.found.specs.Places.{Placed}
+use Rattle.lists.specs.Each.{Each}
+use Rattle.lists.proofs.Each.{each-append, each-of, of-each}
 use Rattle.quick.specs.Names.{judged, nameOf, slotIn, slotOf}
 use Rattle.quick.specs.Slots.{EachSlot, Leads, gap, rawAt, told}
 use Rattle.quick.specs.Fits.{Filled, Led, Named, called}

@@ -6,7 +6,8 @@ use Rattle.flash.specs.Step.{sector}
 use Rattle.page.specs.Walk.{Laid, walk}
 use Rattle.table.specs.declared.Page.{Page}
 use Rattle.found.specs.Found.{found}
-use Rattle.found.specs.Places.{placeOf, Each, Lies, Placed}
+use Rattle.found.specs.Places.{placeOf, Lies, Placed}
+use Rattle.lists.specs.Each.{Each}
 use Rattle.found.proofs.Finding.{found-placed, places-more}
 use Rattle.quick.specs.Fits.{Filled, Named}
 

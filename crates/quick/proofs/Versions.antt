@@ -13,7 +13,7 @@ use Rattle.entry.specs.Fields.{kindIn}
 use Rattle.page.proofs.Tests.{either-second}
 use Rattle.lists.proofs.Member.{true≢false}
 use Rattle.found.specs.Found.{chunkKind, indexKind, isChunk, isIndex, isPart}
-use Rattle.duplicates.proofs.Versions.{split-group}
+use Rattle.found.proofs.Versions.{split-group}
 
 pub split-in : (b g s : ℕ) → 0 < b → s ≤ 128 → ((g / b * 256 + s) * b + g % b) / b / 256 * b + ((g / b * 256 + s) * b + g % b) % b ≡ g
 split-in b g s z h = split-group b (g / b) s (g % b) ((g / b * 256 + s) * b + g % b) (mod-lt g z) h refl ∙ div-add-mod' g b

@@ -8,7 +8,7 @@ use Rattle.entry.specs.States.{one}
 use Rattle.entry.specs.Fields.{chunkSize, indexCount, indexSize}
 use Rattle.lists.specs.Lists.{some-of, sumOf, sumTo}
 use Rattle.found.specs.Found.{isChunk, isIndex, versionOf, groupOf, indexOf, chunkOf}
-use Rattle.found.specs.Places.{Each}
+use Rattle.lists.specs.Each.{Each}
 use Rattle.quick.specs.Names.{judged, nameOf, chunkNumber, chunkName}
 use Rattle.quick.specs.Slots.{rawAt, told, EachSlot, Leads}
 

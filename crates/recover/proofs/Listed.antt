@@ -1,12 +1,11 @@
 -- What the lists of the scan, and of stage 1 after it, are fit for. Assumes nothing.
-use mathlib.Core.Path.{_≡_, refl, sym, ap, _∙_}
-use mathlib.Core.Bool.{Bool, true, false, _&&_}
-use mathlib.Core.Logic.{_⊎_, inl, inr}
-use mathlib.Core.List.{List, map}
-use Prim.Native.Nat.{ℕ, _+_, _-_, _*_, _%_, _/_, _≤_, _<_}
+use mathlib.Core.Path.{_≡_, refl, ap, _∙_}
+use mathlib.Core.Bool.{Bool, true, false}
+use mathlib.Core.List.{List}
+use Prim.Native.Nat.{ℕ, _+_, _-_, _*_, _/_, _≤_}
 use native.Mathlib.Omega.{arith}
-use lib.Dec.{leb, ltb}
-use lib.ListN.{length, take, getD}
+use lib.Dec.{ltb}
+use lib.ListN.{length, getD}
 use borrow.Author.Tests.{le-leb, ltb-false}
 use Rattle.entry.specs.States.{one}
 use Rattle.flash.specs.declared.Ran.{Ran}
@@ -26,8 +25,9 @@ use Rattle.table.specs.Placed.{Placed}
 use Rattle.table.proofs.Scanned.{pages-placed}
 use Rattle.order.specs.Order.{ordering, ordered}
 use Rattle.order.proofs.Kept.{ordered-placed, ordered-sum, ordered-in, ordered-greatest, ordering-keeps}
-use Rattle.found.specs.Places.{Each, Lies}
-use Rattle.found.proofs.Each.{each-of}
+use Rattle.found.specs.Places.{Lies}
+use Rattle.lists.specs.Each.{Each}
+use Rattle.lists.proofs.Each.{each-of}
 use Rattle.found.proofs.Lying.{lies-same, pages-lie}
 use Rattle.finishing.specs.Finishing.{freeings}
 use Rattle.recover.specs.Recover.{tooHigh}

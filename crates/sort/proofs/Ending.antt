@@ -1,35 +1,21 @@
 -- Where a run ends. Assumes nothing.
 use mathlib.Core.Path.{_≡_, refl, sym, ap, ap₂, _∙_}
-use mathlib.Core.Logic.{inl, inr}
-use mathlib.Core.List.{List, [], _∷_, _++_, map, map-append}
-use Prim.Native.Nat.{ℕ, zero, suc, _+_, _-_, _≤_, _<_}
+use mathlib.Core.Logic.{inl}
+use mathlib.Core.List.{List, [], _∷_, _++_, map-append}
+use Prim.Native.Nat.{ℕ, suc, _+_, _-_, _≤_, _<_}
 use native.Mathlib.Omega.{arith}
 use native.Mathlib.Numerals.{add-one}
-use lib.ListN.{length, take, drop, getD, length-drop, length-map, drop-of-length-le}
+use lib.ListN.{length, take, drop, getD, length-drop, length-map}
 use lib.Seq.{slice-empty, drop-drop, take-suc, drop-append-le, length-take-le}
 use Rattle.lists.proofs.Member.{_∈_}
 use Rattle.found.specs.Found.{Found}
-use Rattle.found.specs.Places.{itemAt, itemsAt, Each}
-use Rattle.found.proofs.Each.{each-append, each-of, of-each}
-use Rattle.found.proofs.Reading.{items-more, items-end}
-use Rattle.sort.specs.Runs.{runs, RunEnds}
-use Rattle.sort.proofs.Passing.{drop-take}
-use Rattle.sort.proofs.Running.{runs-split}
-
-module _ {A B : Type 0} (f : A → B) where
-  pub take-map : (k : ℕ) (xs : List A) → take k (map f xs) ≡ map f (take k xs)
-  take-map zero xs = refl
-  take-map (suc k) [] = refl
-  take-map (suc k) (x ∷ xs) = ap {B = List B} (λ (r : List B). f x ∷ r) (take-map k xs)
-
-  pub drop-map : (k : ℕ) (xs : List A) → drop k (map f xs) ≡ map f (drop k xs)
-  drop-map zero xs = refl
-  drop-map (suc k) [] = refl
-  drop-map (suc k) (x ∷ xs) = drop-map k xs
-
-each-nil : {A : Type 0} (P : A → Type 0) → Each P []
-unfolding Each
-each-nil P = tt
+use Rattle.found.specs.Places.{itemAt, itemsAt}
+use Rattle.lists.specs.Each.{Each}
+use Rattle.lists.proofs.Each.{each-nil, each-append, each-of}
+use Rattle.sort.specs.Runs.{RunEnds}
+use Rattle.lists.specs.Runs.{runs}
+use Rattle.lists.proofs.Parts.{drop-take, take-map, drop-map}
+use Rattle.lists.proofs.Running.{runs-split}
 
 module _ (f : Found → ℕ) (l places : List ℕ) (a : ℕ) where
   abbrev G : ℕ

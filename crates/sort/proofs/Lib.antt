@@ -1,15 +1,8 @@
-pub mod Merges
-pub mod Parting
-pub mod Climbing
-pub mod Running
 pub mod Aging
 pub mod Copying
 pub mod Weaving
 pub mod Passing
 pub mod Room
-pub mod Below
 pub mod Growing
-pub mod Mapping
 pub mod Ending
-pub mod Keeping
 pub mod After

@@ -1,7 +1,8 @@
 // The runs of the sorted places: those of one group.
 ghost use Prim.Native.Nat.{_<_};
 ghost use lib.ListN.{length};
-ghost use Rattle.found.specs.Places.{Each, Placed};
+ghost use Rattle.found.specs.Places.{Placed};
+ghost use Rattle.lists.specs.Each.{Each};
 ghost use Rattle.sort.specs.Rank.{groupBy};
 ghost use Rattle.sort.specs.Runs.{RunEnds};
 

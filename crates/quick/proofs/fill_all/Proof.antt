@@ -16,7 +16,7 @@ use Rattle.flash.proofs.Sectors.{lent-sector}
 use Rattle.table.proofs.Listing.{element, listed-end}
 use Rattle.found.specs.Places.{placeOf, Lies}
 use Rattle.found.specs.Found.{found}
-use Rattle.found.proofs.Each.{each-front}
+use Rattle.lists.proofs.Each.{each-front}
 use Rattle.quick.specs.Slots.{Leads}
 use Rattle.quick.proofs.Filling.{none-leads, none-named}
 use Rattle.quick.proofs.Pages.{page-filled, page-placed, placesOn, SoFar}

@@ -1,17 +1,15 @@
 -- `blobs::keep_parts` meets its contract: the parts passed stand in front, and those to come where they stood. Assumes nothing.
 use mathlib.Core.Path.{_≡_, refl, sym, ap, _∙_}
-use mathlib.Core.Bool.{Bool, true, false}
-use mathlib.Core.List.{List}
-use Prim.Native.Nat.{ℕ, _+_, _-_, _≤_}
+use mathlib.Core.Bool.{Bool}
+use Prim.Native.Nat.{ℕ, _-_, _≤_}
 use native.Mathlib.Omega.{arith}
 use lib.ListN.{length, take, drop, getD, length-set}
-use lib.Seq.{take-take, take-all}
 use borrow.Author.Needs.{needs}
 use borrow.Author.Tests.{not-true, not-false}
 use Rattle.lists.specs.Lists.{keep}
 use Rattle.found.specs.Found.{isPart}
 use Rattle.found.specs.Places.{itemAt, Placed}
-use Rattle.found.proofs.Each.{each-front}
+use Rattle.lists.proofs.Each.{each-front}
 use Rattle.blobs.proofs.Fronts.{read, rest-past, front-past, rest-put, front-put}
 use Rattle.blobs.proofs.front.keep_parts.Statement.{statement}
 use Rattle.blobs.proofs.front.keep_parts.Tie as tie

@@ -9,7 +9,7 @@ use Rattle.lists.specs.Lists.{some-of}
 use Rattle.found.specs.Places.{itemAt, itemsAt, Placed}
 use Rattle.found.specs.Found.{Found, isPart}
 use Rattle.found.proofs.Reading.{items-more, items-end}
-use Rattle.found.proofs.Each.{each-at}
+use Rattle.lists.proofs.Each.{each-at}
 use Rattle.blobs.proofs.stage.any_part.Statement.{statement}
 use Rattle.blobs.proofs.stage.any_part.Tie as tie
 

@@ -1,22 +1,16 @@
 -- `blobs::judge_all` meets its contract: namespace by namespace the versions are judged. Assumes nothing.
-use mathlib.Core.Path.{_≡_, refl, sym, ap, ap₂, _∙_}
-use mathlib.Core.List.{List, flatMap}
-use Prim.Native.Nat.{ℕ, _-_, _≤_}
+use mathlib.Core.List.{flatMap}
+use Prim.Native.Nat.{_-_}
 use native.Mathlib.Omega.{arith}
-use lib.ListN.{length, take, drop, getD}
+use lib.ListN.{length, drop}
 use borrow.Author.Needs.{needs}
 use Rattle.flash.specs.Did.{Goes}
 use Rattle.flash.proofs.Laws.{goes-start, goes-on, goes-stop, goes-end}
-use Rattle.found.specs.Found.{Found}
-use Rattle.found.specs.Places.{itemAt, itemsAt, Placed, Alike}
-use Rattle.found.specs.Ranks.{rankNumber}
+use Rattle.found.specs.Places.{itemsAt, Alike}
 use Rattle.found.proofs.Alike.{alike-refl, alike-trans}
-use Rattle.found.proofs.Each.{each-at}
-use Rattle.sort.specs.Rank.{groupBy}
-use Rattle.sort.specs.Runs.{runs}
-use Rattle.blobs.specs.Blobs.{versionIn, judge, older}
-use Rattle.blobs.specs.Runs.{headGroup, spaceBy, startSteps, spaceSteps, olderSteps}
-use Rattle.blobs.proofs.Passes.{gathered-still, gathered-run, items-run, pass-left, first-group, pass-end}
+use Rattle.lists.specs.Runs.{runs}
+use Rattle.blobs.specs.Runs.{spaceBy, spaceSteps}
+use Rattle.blobs.proofs.Passes.{gathered-still, gathered-run, items-run, pass-left, pass-end}
 use Rattle.blobs.proofs.stage.judge_all.Statement.{statement}
 use Rattle.blobs.proofs.stage.judge_all.Tie as tie
 

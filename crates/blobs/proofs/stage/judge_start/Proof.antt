@@ -1,21 +1,20 @@
 -- `blobs::judge_start` meets its contract: run by run the group's version of the start is judged. Assumes nothing.
-use mathlib.Core.Path.{_≡_, refl, sym, ap, ap₂, _∙_}
-use mathlib.Core.List.{List, flatMap}
-use Prim.Native.Nat.{ℕ, _-_, _≤_}
+use mathlib.Core.Path.{_≡_, ap, ap₂, _∙_}
+use mathlib.Core.List.{flatMap}
+use Prim.Native.Nat.{ℕ, _-_}
 use native.Mathlib.Omega.{arith}
-use lib.ListN.{length, take, drop, getD}
+use lib.ListN.{length, take, drop}
 use borrow.Author.Needs.{needs}
 use Rattle.flash.specs.Did.{Goes}
 use Rattle.flash.proofs.Laws.{goes-start, goes-on, goes-stop, goes-end}
-use Rattle.found.specs.Found.{Found}
 use Rattle.found.specs.Places.{itemAt, itemsAt, Placed, Alike}
 use Rattle.found.specs.Ranks.{rankNumber}
 use Rattle.found.proofs.Alike.{alike-refl, alike-trans}
-use Rattle.found.proofs.Each.{each-at}
+use Rattle.lists.proofs.Each.{each-at}
 use Rattle.sort.specs.Rank.{groupBy}
-use Rattle.sort.specs.Runs.{runs}
-use Rattle.blobs.specs.Blobs.{versionIn, judge, older}
-use Rattle.blobs.specs.Runs.{headGroup, spaceBy, startSteps, spaceSteps, olderSteps}
+use Rattle.lists.specs.Runs.{runs}
+use Rattle.blobs.specs.Blobs.{versionIn, judge}
+use Rattle.blobs.specs.Runs.{startSteps}
 use Rattle.blobs.proofs.Passes.{gathered-still, gathered-run, items-run, pass-left, first-group, pass-end}
 use Rattle.blobs.proofs.stage.judge_start.Statement.{statement}
 use Rattle.blobs.proofs.stage.judge_start.Tie as tie

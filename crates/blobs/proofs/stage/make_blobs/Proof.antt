@@ -1,22 +1,24 @@
 -- `blobs::make_blobs` meets its contract: the parts are put in front and sorted, and their runs are the versions and the groups. Assumes nothing.
-use mathlib.Core.Path.{_≡_, refl, sym, ap, ap₂, _∙_}
+use mathlib.Core.Path.{_≡_, sym, ap, ap₂, _∙_}
 use mathlib.Core.List.{List, _++_, flatMap}
-use Prim.Native.Nat.{ℕ, _+_, _<_, _≤_}
+use Prim.Native.Nat.{ℕ, _<_}
 use native.Mathlib.Omega.{arith}
-use lib.ListN.{length, take, getD}
+use lib.ListN.{take, getD}
 use lib.Seq.{length-take-le}
 use borrow.Author.Needs.{needs}
 use Rattle.flash.specs.Step.{Step}
 use Rattle.lists.specs.Lists.{keep, sortBy}
 use Rattle.lists.proofs.Search.{keep-in}
 use Rattle.found.specs.Found.{Found, isPart}
-use Rattle.found.specs.Places.{itemAt, itemsAt, Each, Placed}
-use Rattle.found.proofs.Each.{each-of, of-each}
+use Rattle.found.specs.Places.{itemAt, itemsAt, Placed}
+use Rattle.lists.specs.Each.{Each}
+use Rattle.lists.proofs.Each.{each-of, of-each}
 use Rattle.sort.specs.declared.choice.Order.the-variants.{Group}
-use Rattle.sort.specs.Rank.{groupBy, rankAt, below}
-use Rattle.sort.specs.Runs.{runs}
-use Rattle.sort.proofs.Below.{each-sort}
-use Rattle.sort.proofs.Keeping.{map-keep}
+use Rattle.sort.specs.Rank.{groupBy, rankAt}
+use Rattle.lists.specs.Merge.{below}
+use Rattle.lists.specs.Runs.{runs}
+use Rattle.lists.proofs.Below.{each-sort}
+use Rattle.lists.proofs.Keeping.{map-keep}
 use Rattle.sort.proofs.After.{front-sorted, sorted-items, items-keys}
 use Rattle.blobs.specs.Blobs.{blobSteps}
 use Rattle.blobs.specs.Runs.{spaceBy, spaceSteps, olderSteps}

@@ -14,7 +14,7 @@ use Rattle.found.specs.Ranks.{rankNumber}
 use Rattle.found.specs.Places.{itemAt, itemsAt, Placed}
 use Rattle.found.specs.Found.{Found, chunkOf}
 use Rattle.found.proofs.Reading.{le-at}
-use Rattle.found.proofs.Each.{each-at}
+use Rattle.lists.proofs.Each.{each-at}
 use Rattle.blobs.specs.Blobs.{sizeIn}
 use Rattle.blobs.proofs.Totals.{total-more, total-end, size-chunk, size-other}
 use Rattle.blobs.proofs.versions.chunk_sums.Statement.{statement}

@@ -8,7 +8,7 @@ use Rattle.lists.specs.Lists.{keep, best as bestOf}
 use Rattle.found.specs.Ranks.{rankNumber}
 use Rattle.found.specs.Places.{itemAt, itemsAt, Placed}
 use Rattle.found.proofs.Reading.{items-more, items-end}
-use Rattle.found.proofs.Each.{each-at}
+use Rattle.lists.proofs.Each.{each-at}
 use Rattle.blobs.specs.Search.{newestOf, PlacedAt, newest, newestWith}
 use Rattle.blobs.proofs.Newer.{newest-more}
 use Rattle.blobs.proofs.versions.newest_of.Statement.{statement}

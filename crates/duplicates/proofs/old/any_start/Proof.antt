@@ -1,6 +1,6 @@
 -- `duplicates::any_start` meets its contract: there is none from here on. Assumes nothing.
 use mathlib.Core.Path.{_≡_, sym, ap, _∙_}
-use mathlib.Core.Bool.{Bool, true, false}
+use mathlib.Core.Bool.{false}
 use Prim.Native.Nat.{ℕ, _-_, _≤_}
 use native.Mathlib.Omega.{arith}
 use lib.ListN.{length, drop, getD}
@@ -10,7 +10,7 @@ use Rattle.lists.proofs.Search.{some-is}
 use Rattle.found.specs.Places.{itemAt, itemsAt, Placed}
 use Rattle.found.specs.Found.{Found}
 use Rattle.found.proofs.Reading.{items-end}
-use Rattle.found.proofs.Each.{each-at}
+use Rattle.lists.proofs.Each.{each-at}
 use Rattle.duplicates.specs.Turns.{indexFrom}
 use Rattle.duplicates.proofs.Back.{item-in, some-past}
 use Rattle.duplicates.proofs.old.any_start.Statement.{statement}

@@ -9,7 +9,7 @@ use Rattle.flash.proofs.Laws.{goes-start, goes-on, goes-stop, goes-end, goes-sa
 use Rattle.found.specs.Found.{eraseAll}
 use Rattle.found.specs.Places.{itemAt, itemsAt, Placed, Alike}
 use Rattle.found.proofs.Alike.{alike-refl, alike-trans, item-alike, each-alike, items-alike}
-use Rattle.found.proofs.Each.{each-at, each-take}
+use Rattle.lists.proofs.Each.{each-at, each-take}
 use Rattle.duplicates.specs.Turns.{oldOne, oldOf, lastAt}
 use Rattle.duplicates.proofs.Taking.{leftFrom, left-start, left-more, left-end}
 use Rattle.duplicates.proofs.old.erase_all_old.Statement.{statement}

@@ -8,7 +8,7 @@ use borrow.Author.Needs.{needs}
 use Rattle.flash.proofs.Laws.{goes-start, goes-on, goes-stop, goes-same, goes-end, goes-last}
 use Rattle.found.specs.Places.{itemAt, itemsAt, Placed}
 use Rattle.found.proofs.Alike.{alike-trans, placed-alike, item-alike, each-alike, items-alike}
-use Rattle.found.proofs.Each.{each-at, each-take}
+use Rattle.lists.proofs.Each.{each-at, each-take}
 use Rattle.duplicates.specs.Turns.{takesChunks, lastAt}
 use Rattle.duplicates.proofs.Taking.{one-steps, with-chunks, with-none}
 use Rattle.duplicates.proofs.old.erase_old.Statement.{statement}

@@ -1,6 +1,5 @@
 -- `duplicates::count_chunks` meets its contract: the chunks from here on are counted. Assumes nothing.
 use mathlib.Core.Path.{_≡_, sym, ap, _∙_}
-use mathlib.Core.Bool.{Bool, true, false}
 use Prim.Native.Nat.{ℕ, _+_, _-_, _≤_}
 use native.Mathlib.Omega.{arith}
 use lib.ListN.{length, drop, getD}
@@ -10,7 +9,7 @@ use Rattle.lists.specs.Lists.{keep}
 use Rattle.found.specs.Places.{itemAt, itemsAt, Placed}
 use Rattle.found.specs.Found.{Found, isChunk}
 use Rattle.found.proofs.Reading.{items-end}
-use Rattle.found.proofs.Each.{each-at}
+use Rattle.lists.proofs.Each.{each-at}
 use Rattle.duplicates.proofs.Back.{keep-more, keep-past}
 use Rattle.duplicates.proofs.run.count_chunks.Statement.{statement}
 use Rattle.duplicates.proofs.run.count_chunks.Tie as tie

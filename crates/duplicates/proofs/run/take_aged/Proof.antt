@@ -1,15 +1,11 @@
 -- `duplicates::take_aged` meets its contract: behind the chunks stand the others, oldest first. Assumes nothing.
-use mathlib.Core.Path.{_≡_, refl, sym, ap, ap₂, _∙_}
-use mathlib.Core.List.{List}
-use Prim.Native.Nat.{ℕ}
+use mathlib.Core.Path.{_≡_, sym}
 use native.Mathlib.Omega.{arith}
 use lib.ListN.{drop}
 use borrow.Author.Needs.{needs}
-use Rattle.found.specs.Found.{Found, eraseAll}
 use Rattle.found.specs.Places.{itemAt, itemsAt, Placed}
-use Rattle.sort.proofs.Passing.{each-drop}
-use Rattle.sort.proofs.Ending.{drop-map}
-use Rattle.duplicates.specs.Turns.{oldOf}
+use Rattle.lists.proofs.Each.{each-drop}
+use Rattle.lists.proofs.Parts.{drop-map}
 use Rattle.duplicates.specs.Runs.{agedSteps}
 use Rattle.duplicates.proofs.OneGroup.{lent}
 use Rattle.duplicates.proofs.run.take_aged.Statement.{statement}

@@ -1,8 +1,8 @@
 -- `duplicates::take_run` meets its contract: of one item, and of namespace 0, nothing goes; else the run is sorted by age. Assumes nothing.
-use mathlib.Core.Path.{_≡_, refl, sym, ap, _∙_}
-use Prim.Native.Nat.{ℕ, _+_, _≤_, _<_}
+use mathlib.Core.Path.{_≡_, refl, sym, _∙_}
+use Prim.Native.Nat.{ℕ, _≤_, _<_}
 use native.Mathlib.Omega.{arith}
-use lib.ListN.{length, take, drop, getD, length-map, length-take}
+use lib.ListN.{take, getD, length-map, length-take}
 use lib.Seq.{length-take-le}
 use borrow.Author.Needs.{needs}
 use Rattle.flash.proofs.Laws.{did-none}
@@ -10,10 +10,11 @@ use Rattle.entry.specs.Fields.{namespaceOf}
 use Rattle.lists.specs.Lists.{sortBy}
 use Rattle.found.specs.Places.{itemAt, itemsAt, Placed}
 use Rattle.found.proofs.Alike.{alike-refl}
-use Rattle.found.proofs.Each.{each-front}
+use Rattle.lists.proofs.Each.{each-front}
 use Rattle.sort.specs.declared.choice.Order.the-variants.{Age}
-use Rattle.sort.specs.Rank.{rankAt, below}
-use Rattle.sort.proofs.Below.{each-sort}
+use Rattle.sort.specs.Rank.{rankAt}
+use Rattle.lists.specs.Merge.{below}
+use Rattle.lists.proofs.Below.{each-sort}
 use Rattle.sort.proofs.After.{front-sorted, behind-kept}
 use Rattle.duplicates.proofs.OneGroup.{run-one, run-free, same-space, run-of-aged}
 use Rattle.duplicates.proofs.run.take_run.Statement.{statement}

@@ -1,21 +1,16 @@
 -- `duplicates::make_duplicates` meets its contract: the runs of the sorted places are the groups. Assumes nothing.
-use mathlib.Core.Path.{_≡_, refl, sym, ap, _∙_}
-use mathlib.Core.List.{List, flatMap}
-use Prim.Native.Nat.{ℕ, _^_, _<_, _≤_}
+use mathlib.Core.Path.{_≡_}
+use Prim.Native.Nat.{ℕ, _<_}
 use native.Mathlib.Omega.{arith}
-use lib.ListN.{length, take, getD}
+use lib.ListN.{take, getD}
 use borrow.Author.Needs.{needs}
 use Rattle.lists.specs.Lists.{sortBy}
-use Rattle.found.specs.Found.{Found}
-use Rattle.found.specs.Places.{itemAt, itemsAt, Placed}
+use Rattle.found.specs.Places.{itemsAt, Placed}
 use Rattle.sort.specs.declared.choice.Order.the-variants.{Group}
-use Rattle.sort.specs.Rank.{groupBy, rankBy, rankAt, below}
-use Rattle.sort.specs.Runs.{runs}
-use Rattle.sort.proofs.Below.{each-sort}
+use Rattle.sort.specs.Rank.{rankAt}
+use Rattle.lists.specs.Merge.{below}
+use Rattle.lists.proofs.Below.{each-sort}
 use Rattle.sort.proofs.After.{front-sorted, sorted-items, items-keys}
-use Rattle.duplicates.specs.Duplicates.{groups}
-use Rattle.duplicates.specs.Turns.{groupSteps}
-use Rattle.duplicates.specs.Runs.{runSteps}
 use Rattle.duplicates.proofs.Local.{steps-by-runs}
 use Rattle.duplicates.proofs.stage.make_duplicates.Statement.{statement}
 use Rattle.duplicates.proofs.stage.make_duplicates.Tie as tie

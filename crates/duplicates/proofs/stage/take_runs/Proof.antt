@@ -1,9 +1,9 @@
 -- `duplicates::take_runs` meets its contract: run by run the groups' items go, and those left stand where they stood. Assumes nothing.
-use mathlib.Core.Path.{_≡_, refl, sym, ap, _∙_}
-use mathlib.Core.List.{List, flatMap}
-use Prim.Native.Nat.{ℕ, _+_, _-_, _≤_}
+use mathlib.Core.Path.{_≡_, refl, ap, _∙_}
+use mathlib.Core.List.{flatMap}
+use Prim.Native.Nat.{_-_, _≤_}
 use native.Mathlib.Omega.{arith}
-use lib.ListN.{length, take, drop, length-drop, length-take}
+use lib.ListN.{length, take, drop, length-drop}
 use lib.Seq.{length-take-le}
 use borrow.Author.Needs.{needs}
 use borrow.Rule.Slice.PartMut.{mid-len, putMid}
@@ -12,7 +12,7 @@ use Rattle.flash.proofs.Laws.{goes-start, goes-on, goes-stop, goes-end}
 use Rattle.found.specs.Places.{itemsAt, Alike}
 use Rattle.found.proofs.Alike.{alike-refl, alike-trans}
 use Rattle.sort.specs.Rank.{groupBy}
-use Rattle.sort.specs.Runs.{runs}
+use Rattle.lists.specs.Runs.{runs}
 use Rattle.sort.proofs.Room.{behind-put}
 use Rattle.duplicates.specs.Runs.{runSteps}
 use Rattle.duplicates.proofs.OneGroup.{lent}

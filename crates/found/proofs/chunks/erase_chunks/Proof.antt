@@ -1,5 +1,5 @@
 -- `found::erase_chunks` meets its contract: the chunks from here on are left, read where they stood as the call began. Assumes nothing.
-use mathlib.Core.Path.{_≡_, refl, sym, ap, _∙_}
+use mathlib.Core.Path.{_≡_, sym, ap, _∙_}
 use mathlib.Core.Bool.{true, false}
 use Prim.Native.Nat.{ℕ, _-_, _≤_}
 use native.Mathlib.Omega.{arith}
@@ -12,7 +12,7 @@ use Rattle.found.specs.Ranks.{rankNumber}
 use Rattle.found.specs.Places.{itemAt, Placed, Alike}
 use Rattle.found.specs.Found.{Found, chunkOf}
 use Rattle.found.proofs.Alike.{alike-refl, alike-trans, placed-alike, item-alike}
-use Rattle.found.proofs.Each.{each-at}
+use Rattle.lists.proofs.Each.{each-at}
 use Rattle.found.proofs.Erasing.{chunksAt, chunk-more, chunk-not, chunks-end}
 use Rattle.found.proofs.chunks.erase_chunks.Statement.{statement}
 use Rattle.found.proofs.chunks.erase_chunks.Tie as tie

@@ -14,7 +14,7 @@ use Rattle.table.proofs.Listing.{element, listed-end}
 use Rattle.found.specs.Places.{placeOf, Lies}
 use Rattle.found.specs.Found.{found}
 use Rattle.found.proofs.Finding.{places-more}
-use Rattle.found.proofs.Each.{each-front}
+use Rattle.lists.proofs.Each.{each-front}
 use Rattle.found.proofs.places.gather.Statement.{statement}
 use Rattle.found.proofs.places.gather.Tie as tie
 

@@ -9,7 +9,7 @@ use borrow.Author.Tests.{not-true}
 use borrow.Author.Needs.{needs}
 use Rattle.lists.proofs.Member.{true≢false}
 use Rattle.found.specs.Places.{Placed}
-use Rattle.found.proofs.Each.{each-at}
+use Rattle.lists.proofs.Each.{each-at}
 use Rattle.quick.specs.Names.{judged}
 use Rattle.quick.specs.Slots.{rawAt}
 use Rattle.quick.specs.Fits.{Filled}

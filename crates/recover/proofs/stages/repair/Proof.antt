@@ -10,7 +10,6 @@ use Rattle.flash.specs.Did.{Did}
 use Rattle.lists.specs.Lists.{some-of}
 use Rattle.table.specs.Table.{listed}
 use Rattle.found.specs.Found.{Found, found, isPart}
-use Rattle.found.specs.Places.{Each, Placed}
 use Rattle.found.proofs.Finding.{items-found, found-placed}
 use Rattle.found.proofs.Lying.{lies-alike}
 use Rattle.blobs.specs.Blobs.{blobSteps}

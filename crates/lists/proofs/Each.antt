@@ -6,8 +6,8 @@ use Prim.Native.Nat.{ℕ, zero, suc, _<_, _≤_}
 use native.Mathlib.Omega.{arith}
 use lib.ListN.{length, getD, take, drop}
 use lib.Seq.{getD-take, length-take-le}
 use Rattle.lists.proofs.Member.{_∈_}
-use Rattle.found.specs.Places.{Each}
+use Rattle.lists.specs.Each.{Each}
 
 module _ {A : Type 0} (P : A → Type 0) where
   pub each-at : (xs : List A) (d : A) → Each P xs → (i : ℕ) → i < length xs → P (getD xs i d)
@@ -15,6 +15,14 @@ module _ {A : Type 0} (P : A → Type 0) where
   each-at [] d h i k = absurd (omega arith)
   each-at (x ∷ xs) d h zero k = h .0
   each-at (x ∷ xs) d h (suc i) k = each-at xs d (h .1) i (omega arith)
+
+  pub each-nil : Each P []
+  unfolding Each
+  each-nil = tt
+
+  pub each-rest : (x : A) (xs : List A) → Each P (x ∷ xs) → Each P xs
+  unfolding Each
+  each-rest x xs h = h .1
 
   -- what holds of whatever stands in it
   pub each-of : (xs : List A) → ((x : A) → x ∈ xs → P x) → Each P xs
@@ -33,12 +41,18 @@ module _ {A : Type 0} (P : A → Type 0) where
   each-append [] ys p q = q
   each-append (x ∷ xs) ys p q = (p .0, each-append xs ys (p .1) q)
 
-  -- a front of the list, and the list with one more put into it
+  -- a front of the list, what lies behind it, and the list with one more put into it
   pub each-take : (k : ℕ) (xs : List A) → Each P xs → Each P (take k xs)
   unfolding Each
   each-take zero xs h = tt
   each-take (suc k) [] h = tt
   each-take (suc k) (x ∷ xs) h = (h .0, each-take k xs (h .1))
+
+  pub each-drop : (k : ℕ) (xs : List A) → Each P xs → Each P (drop k xs)
+  unfolding Each
+  each-drop zero xs h = h
+  each-drop (suc k) [] h = tt
+  each-drop (suc k) (x ∷ xs) h = each-drop k xs (h .1)
 
   pub each-insert : (i : ℕ) (xs : List A) (x : A) → P x → Each P xs → Each P (take i xs ++ (x ∷ drop i xs))
   unfolding Each

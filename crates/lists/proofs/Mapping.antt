@@ -1,11 +1,11 @@
 -- Sorting places by what stands there sorts what stands there. Assumes nothing.
-use mathlib.Core.Path.{_≡_, refl, sym, ap, _∙_}
+use mathlib.Core.Path.{_≡_, refl, ap, _∙_}
 use mathlib.Core.Bool.{Bool, true, false, cond}
 use mathlib.Core.List.{List, [], _∷_, map}
 use Prim.Native.Nat.{ℕ}
 use lib.Dec.{ltb}
 use Rattle.lists.specs.Lists.{insertBy, sortBy}
-use Rattle.sort.specs.Rank.{below}
+use Rattle.lists.specs.Merge.{below}
 
 module _ {A B : Type 0} (g : A → B) (f : B → ℕ) where
   abbrev at : A → ℕ

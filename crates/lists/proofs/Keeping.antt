@@ -1,12 +1,12 @@
 -- Those that pass a test, of those that pass a weaker one; and what is made of them. Assumes nothing.
-use mathlib.Core.Path.{_≡_, refl, sym, ap, ap₂, _∙_}
+use mathlib.Core.Path.{_≡_, refl, ap, ap₂}
 use mathlib.Core.Logic.{inl, inr}
 use mathlib.Core.Bool.{Bool, true, false, cond}
 use mathlib.Core.List.{List, [], _∷_, _++_, map, flatMap}
 use Prim.Native.Nat.{ℕ, _+_}
 use native.Mathlib.Omega.{arith}
 use Rattle.lists.specs.Lists.{keep, sumOf}
 use Rattle.lists.proofs.Member.{_∈_, true≢false}
 
 module _ {A : Type 0} where
   -- those that pass a test pass a weaker one

@@ -8,56 +8,17 @@ use native.Mathlib.Omega.{arith}
 use lib.Dec.{eqb, ltb}
 use lib.ListN.{length, take, drop}
 use borrow.Author.Tests.{ltb-true, ltb-false, eqb-true, eqb-false, eq-eqb}
 use Rattle.lists.specs.Lists.{keep, insertBy, sortBy, ascendFrom, ascending}
 use Rattle.lists.proofs.Member.{_∈_, refuted, nil≢}
-use Rattle.lists.proofs.Maps.{in-map, map-in}
+use Rattle.lists.proofs.Maps.{map-ext, in-map, map-in}
 use Rattle.lists.proofs.Search.{keep-in, keep-none}
-use Rattle.lists.proofs.Sorting.{sort-in}
+use Rattle.lists.proofs.Sorting.{insert-in, sort-in, in-sort}
 use Rattle.lists.proofs.Ascending.{ascending-in}
-use Rattle.found.specs.Places.{Each}
-use Rattle.found.proofs.Each.{of-each}
-use Rattle.sort.specs.Runs.{runWith, runs}
-use Rattle.sort.specs.Rank.{below}
-use Rattle.sort.proofs.Climbing.{Climbs, climb-above, ascending-climbs, ascending-same, ascending-least, ascending-again}
-
-map-ext : {A B : Type 0} (g h : A → B) (xs : List A) → ((y : A) → y ∈ xs → g y ≡ h y) → map g xs ≡ map h xs
-map-ext g h [] e = refl
-map-ext {A} {B} g h (x ∷ xs) e = ap₂ (λ (a : B) (r : List B). a ∷ r) (e x (inl refl)) (map-ext g h xs (λ y m. e y (inr m)))
-
-each-rest : {A : Type 0} (P : A → Type 0) (x : A) (xs : List A) → Each P (x ∷ xs) → Each P xs
-unfolding Each
-each-rest P x xs h = h .1
-
--- ---- sorting
-module _ {A : Type 0} (before : A → A → Bool) where
-  insert-either : (x : A) (ys : List A) (z : A) → z ∈ insertBy before x ys → (z ≡ x) ⊎ (z ∈ ys)
-  unfolding insertBy
-  insert-either x [] z m = m
-  insert-either x (y ∷ ys) z m = go (before y x) m (insert-either x ys z)
-    where
-      go : (b : Bool) → z ∈ cond b (y ∷ insertBy before x ys) (x ∷ (y ∷ ys)) → (z ∈ insertBy before x ys → (z ≡ x) ⊎ (z ∈ ys)) → (z ≡ x) ⊎ (z ∈ (y ∷ ys))
-      go true (inl e) ih = inr (inl e)
-      go true (inr k) ih = ⊎-elim (λ w. inl w) (λ w. inr (inr w)) (ih k)
-      go false (inl e) ih = inl e
-      go false (inr k) ih = inr k
-
-  in-insert : (x : A) (ys : List A) (z : A) → (z ≡ x) ⊎ (z ∈ ys) → z ∈ insertBy before x ys
-  unfolding insertBy
-  in-insert x [] z m = m
-  in-insert x (y ∷ ys) z m = go (before y x) m (in-insert x ys z)
-    where
-      go : (b : Bool) → (z ≡ x) ⊎ (z ∈ (y ∷ ys)) → ((z ≡ x) ⊎ (z ∈ ys) → z ∈ insertBy before x ys) → z ∈ cond b (y ∷ insertBy before x ys) (x ∷ (y ∷ ys))
-      go true (inl e) ih = inr (ih (inl e))
-      go true (inr (inl e)) ih = inl e
-      go true (inr (inr k)) ih = inr (ih (inr k))
-      go false (inl e) ih = inl e
-      go false (inr k) ih = inr k
-
-  -- what stood in the list stands in the sorted one
-  pub in-sort : (xs : List A) (z : A) → z ∈ xs → z ∈ sortBy before xs
-  unfolding sortBy
-  in-sort [] z m = absurd m
-  in-sort (x ∷ xs) z m = in-insert x (sortBy before xs) z (⊎-elim (λ e. inl e) (λ k. inr (in-sort xs z k)) m)
+use Rattle.lists.specs.Each.{Each}
+use Rattle.lists.proofs.Each.{each-rest, of-each}
+use Rattle.lists.specs.Runs.{runWith, runs}
+use Rattle.lists.specs.Merge.{below}
+use Rattle.lists.proofs.Climbing.{Climbs, climb-above, ascending-climbs, ascending-same, ascending-least, ascending-again}
 
 module _ {A : Type 0} (f : A → ℕ) where
   -- those of one number
@@ -71,7 +32,7 @@ module _ {A : Type 0} (f : A → ℕ) where
   insert-rises : (x : A) (ys : List A) → Rises ys → Rises (insertBy (below f) x ys)
   unfolding insertBy
   insert-rises x [] r = ((λ y m. absurd m), tt)
-  insert-rises x (y ∷ ys) r = go (ltb (f y) (f x)) refl (insert-rises x ys (r .1)) (insert-either (below f) x ys)
+  insert-rises x (y ∷ ys) r = go (ltb (f y) (f x)) refl (insert-rises x ys (r .1)) (insert-in (below f) x ys)
     where
       go : (b : Bool) → ltb (f y) (f x) ≡ b → Rises (insertBy (below f) x ys) → ((z : A) → z ∈ insertBy (below f) x ys → (z ≡ x) ⊎ (z ∈ ys)) → Rises (cond b (y ∷ insertBy (below f) x ys) (x ∷ (y ∷ ys)))
       go true e ih w = let h = ltb-true (f y) (f x) e in ((λ z m. ⊎-elim (λ q. let a = ap f q in omega arith) (λ n. r .0 z n) (w z m)), ih)
