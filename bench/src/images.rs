@@ -49,10 +49,10 @@ impl Page {
     pub fn item(&mut self, kind: u8, chunk: u8, data: [u8; 8], payload: &[u8]) {
         let span = 1 + payload.len().div_ceil(32);
         let at = 64 + 32 * self.next;
-        let key = name(if self.stirred { stir(self.key) } else { self.key });
+        let key = if self.stirred { stir(self.key) } else { self.key };
         self.bytes[at..at + 32].fill(0);
         self.bytes[at..at + 4].copy_from_slice(&[1, kind, span as u8, chunk]);
-        self.bytes[at + 8..at + 8 + key.len()].copy_from_slice(key.as_bytes());
+        put_name(key, &mut self.bytes[at + 8..at + 24]);
         self.bytes[at + 24..at + 32].copy_from_slice(&data);
         let crc = entry_crc(&self.bytes[at..at + 32]);
         self.bytes[at + 4..at + 8].copy_from_slice(&crc.to_le_bytes());
@@ -91,9 +91,14 @@ impl Page {
     }
 }
 
-/// The key of a number, as text.
-pub fn name(key: usize) -> String {
-    format!("q{key:08}")
+/// The key of a number, as text: a letter and eight digits.
+pub fn put_name(key: usize, out: &mut [u8]) {
+    out[0] = b'q';
+    let mut rest = key;
+    for digit in out[1..9].iter_mut().rev() {
+        *digit = b'0' + (rest % 10) as u8;
+        rest /= 10;
+    }
 }
 
 /// Another number for each, in no order.

@@ -166,8 +166,7 @@ fn lone_chunks() -> Vec<u8> {
 /// The slot at which the quick test begins to look for a name: `front` is what it puts in front of the key.
 fn slot(front: u64, key: usize) -> usize {
     let mut bytes = [0u8; 16];
-    let text = name(key);
-    bytes[..text.len()].copy_from_slice(text.as_bytes());
+    put_name(key, &mut bytes);
     let [high, low] = [0, 8].map(|at| u64::from_be_bytes(bytes[at..at + 8].try_into().unwrap()));
     let both = high ^ low / 8;
     let halves = [(both >> 32) * 0x9E37_79B1, (both & 0xFFFF_FFFF) * 0x85EB_CA77];
@@ -175,36 +174,32 @@ fn slot(front: u64, key: usize) -> usize {
     ((mixed ^ mixed >> 32) >> 20 & 4095) as usize
 }
 
-/// What stands in front of the key for an item of namespace 1, and for its chunk 0.
+/// What stands in front of the key for an item of namespace 1 that is no chunk.
 const FRONT: u64 = 1;
-const CHUNK_FRONT: u64 = 256 + 256;
 
 /// 2,016 one-entry items, no two alike, whose names all begin at one slot.
 fn one_slot() -> Vec<u8> {
+    let mut keys = (1..).filter(|key| slot(FRONT, *key) == 77);
     let pages = filled(16, false, 1, |page, _| {
-        page.key += 1;
-        while slot(FRONT, page.key) != 77 {
-            page.key += 1;
-        }
+        page.key = keys.next().unwrap();
         page.item(NUMBER, 0xFF, [0; 8], &[]);
     });
     image(pages, 0)
 }
 
-/// 945 blobs, the last one unsound, whose chunks' and indices' names crowd few slots: many looks, and none too many for the
-/// quick test to go on.
+/// 945 blobs, the last one unsound, whose indices' names begin at 16 slots, and with them those of their chunks at 16 others:
+/// as many at each as the quick test looks through.
 fn crowded() -> Vec<u8> {
     let mut taken = [0usize; 4096];
-    let mut key = 1;
-    let pages = filled(15, false, 2, |page, sequence| loop {
-        key += 1;
-        let slots = [slot(FRONT, key), slot(CHUNK_FRONT, key)];
-        if slots.iter().all(|at| at % 128 == 0 && taken[*at] < 63) {
-            slots.map(|at| taken[at] += 1);
-            page.key = key - 1;
-            page.blob(&[], u8::from(sequence == 15 && page.next + 2 == ENTRIES));
-            return;
-        }
+    let mut keys = (1..).filter(|key| {
+        let at = slot(FRONT, *key);
+        let free = at % 256 == 0 && taken[at] < 63;
+        taken[at] += usize::from(free);
+        free
+    });
+    let pages = filled(15, false, 2, |page, sequence| {
+        page.key = keys.next().unwrap() - 1;
+        page.blob(&[], u8::from(sequence == 15 && page.next + 2 == ENTRIES));
     });
     image(pages, 1)
 }
