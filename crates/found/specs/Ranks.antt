@@ -1,4 +1,4 @@
--- "Versions are taken in ascending (namespace, start, key)", groups in "ascending (namespace, key)": what the code finds next, as a number.
+-- Bridge: "Versions are taken in ascending (namespace, start, key)", groups in "ascending (namespace, key)": what the code finds next, as a number.
 -- Assumes nothing.
 use mathlib.Core.Bool.{Bool, cond, not, _&&_}
 use mathlib.Core.Option.{Option, none, some}

@@ -1,4 +1,5 @@
--- Document 01, Recovery: "Page list: sectors ascending. Free list the same; the last is taken first, and an erased sector joins at the end." Assumes nothing.
+-- Rule. Document 01, Recovery: "Page list: sectors ascending. Free list the same; the last is taken first, and an erased sector joins at the end." Assumes
+-- nothing.
 use mathlib.Core.Bool.{Bool, true, false, cond, _&&_}
 use mathlib.Core.List.{List, [], _∷_, _++_}
 use Prim.Native.Nat.{ℕ, zero, suc, _≤_, _*_, _/_, _%_}
