@@ -1,70 +1,137 @@
 #!/usr/bin/env python3
-# rt mir NAME | python3 tools/mir.py FN : the locals and the statements of the function FN, numbered, one a line.
-import sys,re
-t=sys.stdin.read()
-toks=re.findall(r'"[^"]*"|[()]|[^\s()]+',t)
-pos=0
-def parse():
-    global pos
-    x=toks[pos]; pos+=1
-    if x=='(':
-        r=[]
-        while toks[pos]!=')': r.append(parse())
-        pos+=1
-        return r
-    return x
-top=[]
-while pos<len(toks): top.append(parse())
-def lst(x,c='lcons',n='lnil'):
-    r=[]
-    while isinstance(x,list) and x and x[0]==c: r.append(x[1]); x=x[2]
-    return r
-def ty(x):
-    if isinstance(x,str): return x
-    if x[0]=='tyInt': return 'u'+x[1]
-    if x[0]=='tyNamed': return x[1][1].strip('"')+(('<'+','.join(str(a) for a in lst(x[1][2]))+'>') if lst(x[1][2]) else '')
-    if x[0]=='tyArray': return '[%s;%s]'%(ty(x[1]),x[2][1] if isinstance(x[2],list) else x[2])
-    if x[0]=='tyRef': return '&%s %s %s'%(x[1] if isinstance(x[1],str) else ' '.join(x[1]),x[2],ty(x[3]))
-    if x[0]=='tyStruct': return '%s{%s}'%(x[1].strip('"'),', '.join(ty(a) for a in lst(x[2],'tcons')))
-    return str(x)
-def pl(x):
-    s='_'+x[1]
-    for st in lst(x[2]):
-        if st[0]=='field': s+='.'+st[1]
-        elif st[0]=='deref': s='(*%s:%s)'%(s,ty(st[1]))
-        else: s+=str(st)
-    return s
-def op(x):
-    if isinstance(x,str): return x
-    if x[0]=='copy': return pl(x[1])
-    if x[0]=='int': return x[2]+'u'+x[1]
-    return str(x)
-def rv(x):
-    if x[0]=='rvOpd': return op(x[1])
-    if x[0]=='op2': return '%s(%s, %s)'%(x[1] if isinstance(x[1],str) else ' '.join(x[1]),op(x[2]),op(x[3]))
-    if x[0]=='op1': return '%s(%s)'%(x[1] if isinstance(x[1],str) else str(x[1]),op(x[2]))
-    if x[0]=='addrOf': return '&raw '+pl(x[1])
-    if x[0]=='aggregate' : return 'agg '+str([op(a) for a in lst(x[-1])]) + ' ' +str(x[1:-1])
-    return str(x)
-def body(b,ind):
-    p='  '*ind
-    if isinstance(b,str): print(p+b); return
-    k=b[0]
-    if k=='seq': body(b[1],ind); body(b[2],ind)
-    elif k=='assign': print(p+pl(b[1])+' = '+rv(b[2]))
-    elif k=='call': print(p+pl(b[3])+' = CALL '+str(b[1])+' '+', '.join(op(a) for a in lst(b[2])))
-    elif k in('block','loop'): print(p+k+' {'); body(b[1],ind+1); print(p+'}')
-    elif k=='if': print(p+'if '+op(b[1])+' {'); body(b[2],ind+1); print(p+'} else {'); body(b[3],ind+1); print(p+'}')
-    else: print(p+str(b))
-def find(x):
-    if isinstance(x,list):
-        if x and x[0]=='fn-def':
-            if len(sys.argv)<2 or x[1].strip('"').endswith('::'+sys.argv[1]) : show(x)
-            return
-        for a in x: find(a)
-def show(x):
-    f=x[2]
-    print('fn',x[1],'lifetimes',f[1],'params',f[3])
-    for i,l in enumerate(lst(f[4])): print('  _%d: %s %s'%(i,ty(l[1]),l[2]))
-    body(f[5],1)
-find(top)
+"""rt mir NAME | python3 tools/mir.py [FN]
+
+Prints the locals and the statements of the function FN of crate NAME, or of each function, one a line. A proof by hand walks through them in this order:
+without it one counts locals in a text of brackets. What it has no form for it prints as the toolchain wrote it.
+"""
+import re
+import sys
+
+
+def parse(text):
+    """The terms of a text of brackets: a word, or a list of terms."""
+    stack = [[]]
+    for token in re.findall(r'"[^"]*"|[()]|[^\s()]+', text):
+        if token == '(':
+            stack.append([])
+        elif token == ')':
+            term = stack.pop()
+            stack[-1].append(term)
+        else:
+            stack[-1].append(token)
+    return stack[0]
+
+
+def elements(term, cons='lcons'):
+    """The elements of a list that is written `(cons FIRST REST)`."""
+    found = []
+    while isinstance(term, list) and term and term[0] == cons:
+        found.append(term[1])
+        term = term[2]
+    return found
+
+
+def words(term):
+    """A word, or a list of words as one text."""
+    return term if isinstance(term, str) else ' '.join(term)
+
+
+def type_(term):
+    kind = term[0]
+    if isinstance(term, str):
+        return term
+    if kind == 'tyInt':
+        return 'u' + term[1]
+    if kind == 'tyNamed':
+        of = ','.join(str(argument) for argument in elements(term[1][2]))
+        return term[1][1].strip('"') + ('<%s>' % of if of else '')
+    if kind == 'tyArray':
+        return '[%s;%s]' % (type_(term[1]), term[2][1] if isinstance(term[2], list) else term[2])
+    if kind == 'tyRef':
+        return '&%s %s %s' % (words(term[1]), term[2], type_(term[3]))
+    if kind == 'tyStruct':
+        return '%s{%s}' % (term[1].strip('"'), ', '.join(type_(field) for field in elements(term[2], 'tcons')))
+    return str(term)
+
+
+def place(term):
+    """A local, and the way from it: fields and what references lead to."""
+    text = '_' + term[1]
+    for step in elements(term[2]):
+        if step[0] == 'field':
+            text += '.' + step[1]
+        elif step[0] == 'deref':
+            text = '(*%s:%s)' % (text, type_(step[1]))
+        else:
+            text += str(step)
+    return text
+
+
+def operand(term):
+    if isinstance(term, str):
+        return term
+    if term[0] == 'copy':
+        return place(term[1])
+    if term[0] == 'int':
+        return term[2] + 'u' + term[1]
+    return str(term)
+
+
+def value(term):
+    """The right side of an assignment."""
+    kind = term[0]
+    if kind == 'rvOpd':
+        return operand(term[1])
+    if kind == 'op2':
+        return '%s(%s, %s)' % (words(term[1]), operand(term[2]), operand(term[3]))
+    if kind == 'op1':
+        return '%s(%s)' % (words(term[1]), operand(term[2]))
+    if kind == 'addrOf':
+        return '&raw ' + place(term[1])
+    if kind == 'aggregate':
+        return 'agg %s %s' % ([operand(part) for part in elements(term[-1])], term[1:-1])
+    return str(term)
+
+
+def statements(term, indent):
+    """The lines of a body."""
+    margin = '  ' * indent
+    kind = term[0]
+    if isinstance(term, str):
+        return [margin + term]
+    if kind == 'seq':
+        return statements(term[1], indent) + statements(term[2], indent)
+    if kind == 'assign':
+        return ['%s%s = %s' % (margin, place(term[1]), value(term[2]))]
+    if kind == 'call':
+        return ['%s%s = CALL %s %s' % (margin, place(term[3]), term[1], ', '.join(operand(argument) for argument in elements(term[2])))]
+    if kind in ('block', 'loop'):
+        return [margin + kind + ' {'] + statements(term[1], indent + 1) + [margin + '}']
+    if kind == 'if':
+        return ([margin + 'if ' + operand(term[1]) + ' {'] + statements(term[2], indent + 1) + [margin + '} else {'] + statements(term[3], indent + 1)
+                + [margin + '}'])
+    return [margin + str(term)]
+
+
+def functions(term):
+    """The functions in a term, each with its name."""
+    if isinstance(term, list) and term and term[0] == 'fn-def':
+        return [(term[1], term[2])]
+    return [found for part in term for found in functions(part)] if isinstance(term, list) else []
+
+
+def main():
+    if len(sys.argv) > 2 or sys.argv[1:] and sys.argv[1].startswith('-') or sys.stdin.isatty():
+        sys.exit(__doc__)
+    wanted = [(name, function) for name, function in functions(parse(sys.stdin.read()))
+              if len(sys.argv) < 2 or name.strip('"').endswith('::' + sys.argv[1])]
+    if not wanted:
+        sys.exit('mir.py: no such function')
+    for name, function in wanted:
+        print('fn', name, 'lifetimes', function[1], 'params', function[3])
+        for number, local in enumerate(elements(function[4])):
+            print('  _%d: %s %s' % (number, type_(local[1]), local[2]))
+        print('\n'.join(statements(function[5], 1)))
+
+
+main()

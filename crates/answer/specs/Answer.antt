@@ -1,4 +1,4 @@
--- Document 01, Result numbers: the number and the values of each answer. Assumes nothing.
+-- Rule. Document 01, Result numbers: the number and the values of each answer. Assumes nothing.
 use mathlib.Core.Bool.{Bool, true, false}
 use Prim.Native.Nat.{ℕ}
 use Rattle.answer.specs.declared.Stage.{Stage}

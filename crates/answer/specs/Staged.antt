@@ -1,5 +1,5 @@
--- Document 01, Result numbers: "A stopped call says in which stage .. It is the stage of the first step not made". Steps with their stages, and the answer
--- that an allowance gives. Assumes nothing.
+-- Rule. Document 01, Result numbers: "A stopped call says in which stage .. It is the stage of the first step not made". Steps with their stages, and the
+-- answer that an allowance gives. Assumes nothing.
 use mathlib.Core.List.{List, [], _∷_, map}
 use Prim.Native.Nat.{ℕ, zero, suc}
 use lib.ListN.{length, take}

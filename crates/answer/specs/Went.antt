@@ -1,4 +1,4 @@
--- Document 01, Result numbers: what a call has done of steps that have stages, while more may follow. Assumes nothing.
+-- Bridge: what a call has done of steps that have stages, while more may follow. Assumes nothing.
 use mathlib.Core.Path.{_≡_}
 use mathlib.Core.List.{List, [], _∷_}
 use Prim.Native.Nat.{ℕ, _-_}

@@ -1,4 +1,4 @@
--- Document 01, Recovery: "3. Blobs." It judges by the items fs found as it begins. Assumes nothing.
+-- Rule. Document 01, Recovery: "3. Blobs." It judges by the items fs found as it begins. Assumes nothing.
 use mathlib.Core.Bool.{Bool, true, false, cond, _&&_, _||_}
 use mathlib.Core.Option.{Option, none, some}
 use mathlib.Core.List.{List, [], _∷_, _++_, map, flatMap}

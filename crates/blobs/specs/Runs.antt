@@ -1,4 +1,4 @@
--- What the code of stage 3 makes of the sorted parts, run by run. Assumes nothing.
+-- Bridge: what the code of stage 3 makes of the sorted parts, run by run. Assumes nothing.
 use mathlib.Core.List.{List, [], _∷_, _++_, flatMap}
 use Prim.Native.Nat.{ℕ}
 use Rattle.entry.specs.Fields.{namespaceOf}

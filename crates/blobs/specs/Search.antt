@@ -1,4 +1,4 @@
--- What the code of stage 3 answers while it judges, item by item. Assumes nothing.
+-- Bridge: what the code of stage 3 answers while it judges, item by item. Assumes nothing.
 use mathlib.Core.Bool.{Bool, cond, _||_}
 use mathlib.Core.Option.{Option, none, some}
 use mathlib.Core.List.{List}

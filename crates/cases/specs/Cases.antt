@@ -1,4 +1,4 @@
--- Document 01, Cases; P marks those proved: one table, and one statement of all its rows. Assumes nothing.
+-- Rule. Document 01, Cases; P marks those proved: one table, and one statement of all its rows. Assumes nothing.
 use mathlib.Core.Bool.{Bool, true, false, _&&_}
 use mathlib.Core.Option.{Option, none, some}
 use mathlib.Core.List.{List, [], _∷_, _++_}

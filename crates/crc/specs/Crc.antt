@@ -1,4 +1,4 @@
--- Document 01, Sector layout: "CRC: 32 bits, reflected polynomial 0xEDB88320, register zero at the start, complemented at the end." Bit by bit.
+-- Rule. Document 01, Sector layout: "CRC: 32 bits, reflected polynomial 0xEDB88320, register zero at the start, complemented at the end." Bit by bit.
 -- Assumes nothing.
 use mathlib.Core.List.{List, [], _∷_}
 use Prim.Native.Nat.{ℕ, zero, suc, _-_, _/_, _%_, _^_}

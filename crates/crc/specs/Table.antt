@@ -1,4 +1,4 @@
--- The table by which the CRC is computed: what the bits that are left of a word make of six of its bits, at each of the six places. Assumes nothing.
+-- Bridge: the table by which the CRC is computed: what the bits that are left of a word make of six of its bits, at each of the six places. Assumes nothing.
 use mathlib.Core.List.{List, [], _∷_}
 use Prim.Native.Nat.{ℕ, zero, suc, _-_, _*_, _/_, _%_}
 use Rattle.crc.specs.Crc.{crcBits}

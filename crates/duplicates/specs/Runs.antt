@@ -1,4 +1,4 @@
--- What the code of stage 4 erases of a run, which are the items of one group, in list order. Assumes nothing.
+-- Bridge: what the code of stage 4 erases of a run, which are the items of one group, in list order. Assumes nothing.
 use mathlib.Core.List.{List}
 use Rattle.flash.specs.Step.{Step}
 use Rattle.lists.specs.Lists.{keep, sortBy}

@@ -1,4 +1,4 @@
--- What the code of stage 4 erases, item by item, so that no item is erased twice. Assumes nothing.
+-- Bridge: what the code of stage 4 erases, item by item, so that no item is erased twice. Assumes nothing.
 use mathlib.Core.Bool.{Bool, cond, not, _&&_}
 use mathlib.Core.Option.{Option, none, some}
 use mathlib.Core.List.{List, [], _∷_, _++_, getLast?, dropLast}

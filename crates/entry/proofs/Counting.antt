@@ -2,7 +2,7 @@
 use mathlib.Core.Path.{_≡_, refl, sym, ap, ap₂, _∙_}
 use mathlib.Core.Bool.{Bool, false, true}
 use Prim.Native.Nat.{ℕ, zero, suc, _+_, _<_, _≤_}
-use native.Mathlib.Nat.{add-zero, add-suc, add-assoc, add-comm, le-suc, le-trans, le-refl}
+use native.Mathlib.Nat.{add-zero, add-suc, add-assoc, le-suc, le-trans, le-refl}
 use native.Mathlib.Omega.{arith}
 use lib.Dec.{eqb}
 use Rattle.entry.specs.States.{countOf, one}

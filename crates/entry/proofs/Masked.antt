@@ -1,6 +1,5 @@
 -- The ones of a masked word count its pairs, over the number of pairs. Assumes nothing.
 use mathlib.Core.Path.{_≡_, refl, sym, ap, ap₂, _∙_}
-use mathlib.Core.List.{List}
 use Prim.Native.Nat.{ℕ, zero, suc, _+_, _-_, _*_, _/_, _%_, _^_, _<_}
 use native.Mathlib.Nat.{mod-lt, zero-lt-suc, div-div-eq-div-mul, pow-suc, mul-comm}
 use native.Mathlib.Omega.{arith}

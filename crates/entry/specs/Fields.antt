@@ -1,5 +1,5 @@
--- Document 01, Sector layout: the fields of an entry, of which h are the 32 bytes, or of an item, which begins with them. Assumes nothing.
-use mathlib.Core.Bool.{Bool, cond}
+-- Rule. Document 01, Sector layout: the fields of an entry, of which h are the 32 bytes, or of an item, which begins with them. Assumes nothing.
+use mathlib.Core.Bool.{cond}
 use mathlib.Core.List.{List, _++_}
 use Prim.Native.Nat.{ℕ, _+_, _*_, _^_}
 use lib.Dec.{ltb}

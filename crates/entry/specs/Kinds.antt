@@ -1,4 +1,4 @@
--- Document 01, Sector layout: "A type byte is judged by its value: 0x01, 0x02, 0x04, 0x08, 0x11, 0x12, 0x14, 0x18, 0x21, 0x41, 0x42 (chunk), 0x48 (blob
+-- Rule. Document 01, Sector layout: "A type byte is judged by its value: 0x01, 0x02, 0x04, 0x08, 0x11, 0x12, 0x14, 0x18, 0x21, 0x41, 0x42 (chunk), 0x48 (blob
 -- index); others are not known." A whole number's kind tells its width in bytes and whether it has a sign (ESP-IDF NVS document). Assumes nothing.
 use mathlib.Core.Bool.{Bool, true, false, cond}
 use Prim.Native.Nat.{ℕ}

@@ -1,4 +1,4 @@
--- "Totals are counted in four 64-bit words by the ones in masked words": what the code counts in a word. Assumes nothing.
+-- Bridge: "Totals are counted in four 64-bit words by the ones in masked words": what the code counts in a word. Assumes nothing.
 use Prim.Native.Nat.{ℕ, _/_}
 use lib.Bits.{bitAnd, bitXor}
 use lib.Count.{ones}

@@ -1,4 +1,4 @@
--- Document 01, Sector layout: the entry states of a sector t and their totals. Assumes nothing.
+-- Rule. Document 01, Sector layout: the entry states of a sector t and their totals. Assumes nothing.
 use mathlib.Core.Bool.{Bool, true, false}
 use mathlib.Core.List.{List}
 use Prim.Native.Nat.{ℕ, zero, suc, _+_, _*_, _/_, _%_, _^_}

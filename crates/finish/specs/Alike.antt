@@ -1,4 +1,4 @@
--- The two comparisons of stage 2 as one: each item of one page is like some item of the other, by its whole header or by its name. Assumes nothing.
+-- Bridge: the two comparisons of stage 2 as one: each item of one page is like some item of the other, by its whole header or by its name. Assumes nothing.
 use mathlib.Core.Bool.{Bool}
 use mathlib.Core.List.{List}
 use Prim.Native.Nat.{ℕ}

@@ -1,4 +1,4 @@
--- Document 01, Recovery: "2. Finish." A round works on the page list ps and the free list fs as they stand, and on the image l. Assumes nothing.
+-- Rule. Document 01, Recovery: "2. Finish." A round works on the page list ps and the free list fs as they stand, and on the image l. Assumes nothing.
 use mathlib.Core.Bool.{Bool, true, false, cond, _&&_}
 use mathlib.Core.Option.{Option, none, some}
 use mathlib.Core.List.{List, [], _∷_, _++_, getLast?, dropLast}

@@ -1,4 +1,4 @@
--- What a round's function answers, and what the functions of a round need. Assumes nothing.
+-- Bridge: what a round's function answers, and what the functions of a round need. Assumes nothing.
 use mathlib.Core.Path.{_≡_}
 use mathlib.Core.List.{List}
 use Prim.Native.Nat.{ℕ}

@@ -1,6 +1,6 @@
--- Document 01, Recovery: "2. Finish .. Repeat until no page counts as Freeing". Assumes nothing.
+-- Rule. Document 01, Recovery: "2. Finish .. Repeat until no page counts as Freeing". Assumes nothing.
 use mathlib.Core.Option.{Option, none, some}
-use mathlib.Core.List.{List, [], _∷_, _++_}
+use mathlib.Core.List.{List, [], _++_}
 use Prim.Native.Nat.{ℕ, zero, suc}
 use Rattle.entry.specs.States.{one}
 use Rattle.flash.specs.Step.{run}

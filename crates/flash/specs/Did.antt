@@ -1,4 +1,4 @@
--- Document 01, The flash model and the allowance: what a call with an allowance did. Assumes nothing.
+-- Bridge: what a call with an allowance did. Assumes nothing.
 use mathlib.Core.Path.{_≡_}
 use mathlib.Core.Bool.{cond}
 use mathlib.Core.List.{List}

@@ -1,4 +1,4 @@
--- Document 01, The flash model and the allowance: a step, and what a list of steps makes of an image. Assumes nothing.
+-- Rule. Document 01, The flash model and the allowance: a step, and what a list of steps makes of an image. Assumes nothing.
 use mathlib.Core.List.{List, [], _∷_, _++_}
 use Prim.Native.Nat.{ℕ, _+_, _*_}
 use lib.ListN.{length, getD, take, drop, set, replicate}

@@ -1,4 +1,4 @@
--- Document 01, Initialise and Copy: "program words .. ascending". Assumes nothing.
+-- Rule. Document 01, The flash model and the allowance, Initialise and Copy: "program words .. ascending". Assumes nothing.
 use mathlib.Core.List.{List, [], _∷_}
 use Prim.Native.Nat.{ℕ, zero, suc, _+_, _*_}
 use lib.ListN.{getD}

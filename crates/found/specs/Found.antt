@@ -1,4 +1,4 @@
--- Document 01, Recovery 3 and 4: the items found on the listed pages as a stage begins, their age, and the versions and groups they belong to.
+-- Rule. Document 01, Recovery 3 and 4: the items found on the listed pages as a stage begins, their age, and the versions and groups they belong to.
 -- Assumes nothing.
 use mathlib.Core.Bool.{Bool, true, false, cond, not, _&&_, _||_}
 use mathlib.Core.List.{List, [], _∷_, map, flatMap}

@@ -1,5 +1,5 @@
--- Where the items found stand: a place is the number of an item's first block of 32 bytes in the image, so its sector, its entry and what its bytes say
--- are read at it. Assumes nothing.
+-- Bridge: where the items found stand: a place is the number of an item's first block of 32 bytes in the image, so its sector, its entry and what its bytes
+-- say are read at it. Assumes nothing.
 use mathlib.Core.Path.{_≡_}
 use mathlib.Core.Logic.{_⊎_}
 use mathlib.Core.List.{List, map}

@@ -1,4 +1,4 @@
--- Document 01, The flash model and the allowance: "Copy an item". Assumes nothing.
+-- Rule. Document 01, The flash model and the allowance: "Copy an item". Assumes nothing.
 use mathlib.Core.Bool.{cond}
 use mathlib.Core.List.{List, [], _∷_, _++_}
 use Prim.Native.Nat.{ℕ, _+_, _*_}

@@ -1,4 +1,4 @@
--- Document 01, The flash model and the allowance: "Erase an item: the state words covering its span, descending, set Erased, so the header's word is
+-- Rule. Document 01, The flash model and the allowance: "Erase an item: the state words covering its span, descending, set Erased, so the header's word is
 -- last." Assumes nothing.
 use mathlib.Core.List.{List}
 use Prim.Native.Nat.{ℕ, _*_}

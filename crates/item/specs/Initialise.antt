@@ -1,4 +1,4 @@
--- Document 01, The flash model and the allowance: "Initialise a sector: erase it if not Blank; program words 1 to 7 ascending, then word 0 as Active.
+-- Rule. Document 01, The flash model and the allowance: "Initialise a sector: erase it if not Blank; program words 1 to 7 ascending, then word 0 as Active.
 -- Version 0xFE." Assumes nothing.
 use mathlib.Core.Bool.{cond}
 use mathlib.Core.List.{List, [], _∷_, _++_}

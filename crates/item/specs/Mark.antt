@@ -1,4 +1,4 @@
--- Document 01, The flash model and the allowance: "Mark: program the state word." Assumes nothing.
+-- Rule. Document 01, The flash model and the allowance: "Mark: program the state word." Assumes nothing.
 use Prim.Native.Nat.{ℕ, _*_}
 use Rattle.flash.specs.Step.{Step, program}
 

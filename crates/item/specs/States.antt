@@ -1,4 +1,4 @@
--- Document 01, The flash model and the allowance: the state steps of a span, which are n entries from entry j on of the page at the address base.
+-- Rule. Document 01, The flash model and the allowance: the state steps of a span, which are n entries from entry j on of the page at the address base.
 -- Assumes nothing.
 use mathlib.Core.Bool.{cond}
 use mathlib.Core.List.{List, [], _∷_}

@@ -1,5 +1,5 @@
--- Document 01, the listing program: its text, of the image l that was given and of its length. Read so (R40): numbers are decimal, every line ends in a
--- newline, the last too; and records enough are lent. Assumes nothing.
+-- Rule. Document 01, Cases, the listing program: its text, of the image l that was given and of its length. Read so (R40): numbers are decimal, every line
+-- ends in a newline, the last too; and records enough are lent. Assumes nothing.
 use mathlib.Core.Path.{_≡_}
 use mathlib.Core.Bool.{cond}
 use mathlib.Core.List.{List, [], _∷_, _++_}

@@ -1,4 +1,4 @@
--- The listing's text as bytes, and what a function that puts text into lent bytes leaves there. Assumes nothing.
+-- Rule. Document 01, Cases, the listing program: its text as bytes, and what a function that puts text into lent bytes leaves there. Assumes nothing.
 use mathlib.Core.Path.{_≡_}
 use mathlib.Core.Bool.{cond}
 use mathlib.Core.List.{List, [], _∷_, _++_}

@@ -1,4 +1,4 @@
--- What holds of each member of a list. Assumes nothing.
+-- Bridge: what holds of each member of a list. Assumes nothing.
 use mathlib.Core.List.{List, [], _∷_}
 
 unfoldable pub Each : {A : Type 0} → (A → Type 0) → List A → Type 0

@@ -1,5 +1,5 @@
--- Lists: search, choice, sums and order. Nothing here knows of pages. What the library has (map, flatMap, getLast?, dropLast) is not defined again.
--- Assumes nothing.
+-- Rule. Document 01, everywhere: of lists, search, choice, sums and order. Nothing here knows of pages. What the library has (map, flatMap, getLast?,
+-- dropLast) is not defined again. Assumes nothing.
 use mathlib.Core.Bool.{Bool, true, false, cond}
 use mathlib.Core.Option.{Option, none, some}
 use mathlib.Core.List.{List, [], _∷_, getLast?, dropLast}

@@ -1,4 +1,4 @@
--- The runs of a list: neighbours of one number. Assumes nothing.
+-- Bridge: the runs of a list: neighbours of one number. Assumes nothing.
 use mathlib.Core.Bool.{Bool, cond}
 use mathlib.Core.List.{List, [], _∷_}
 use Prim.Native.Nat.{ℕ}

@@ -1,5 +1,5 @@
--- Document 01, Recovery: "1. Active order. The Active page of greatest sequence, the first among equals, changes places with the last of the list. Other
--- Active pages are marked Full in list order. If the kept one has no Empty entry it is marked Full." Assumes nothing.
+-- Rule. Document 01, Recovery: "1. Active order. The Active page of greatest sequence, the first among equals, changes places with the last of the list.
+-- Other Active pages are marked Full in list order. If the kept one has no Empty entry it is marked Full." Assumes nothing.
 use mathlib.Core.Bool.{Bool, cond}
 use mathlib.Core.Option.{Option, none, some}
 use mathlib.Core.List.{List, [], _∷_, _++_, map}

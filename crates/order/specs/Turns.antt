@@ -1,4 +1,4 @@
--- What a turn of each loop of stage 1 adds, and the parts of its list of steps. Assumes nothing.
+-- Bridge: what a turn of each loop of stage 1 adds, and the parts of its list of steps. Assumes nothing.
 use mathlib.Core.Bool.{cond}
 use mathlib.Core.List.{List, [], _∷_, map}
 use Rattle.flash.specs.Step.{Step}

@@ -1,5 +1,5 @@
 -- The places of the items that the walk meets, a turn at a time. Assumes nothing.
-use mathlib.Core.Path.{_≡_, sym, ap, _∙_}
+use mathlib.Core.Path.{_≡_, sym, ap}
 use mathlib.Core.Bool.{true, false}
 use mathlib.Core.List.{List, [], _∷_, _++_, map, append-assoc}
 use Prim.Native.Nat.{ℕ, _+_, _<_, _≤_}
@@ -7,7 +7,7 @@ use native.Mathlib.Numerals.{add-one}
 use lib.ListN.{length, take, set}
 use lib.Seq.{take-suc-set}
 use Rattle.entry.specs.Fields.{entryAt, spanOf}
-use Rattle.page.specs.Walk.{isItem, Laid, laidAt, walk}
+use Rattle.page.specs.Walk.{isItem, Laid, walk}
 use Rattle.page.proofs.Walking.{walk-past, walk-item, walk-skip}
 
 module _ (t : List ℕ) (base : ℕ) where

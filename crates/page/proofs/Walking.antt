@@ -1,13 +1,11 @@
 -- How the walk goes: by one where no item begins, else by the item's span, and never past entry 125. Assumes nothing.
 use mathlib.Core.Path.{_≡_, refl, sym, ap, _∙_}
-use mathlib.Core.Bool.{Bool, true, false, cond, _&&_}
+use mathlib.Core.Bool.{Bool, true, false, cond}
 use mathlib.Core.List.{List, [], _∷_}
-use Prim.Native.Nat.{ℕ, zero, suc, _+_, _*_, _<_, _≤_}
+use Prim.Native.Nat.{ℕ, zero, suc, _+_, _<_, _≤_}
 use native.Mathlib.Omega.{arith}
-use native.Mathlib.Numerals.{add-one}
 use lib.Dec.{leb}
-use borrow.Author.Tests.{leb-true, lt-leb}
-use Rattle.word.specs.Number.{part}
+use borrow.Author.Tests.{leb-true}
 use Rattle.entry.specs.Fields.{entryAt, spanOf}
 use Rattle.page.proofs.Tests.{both-first, both-second}
 use Rattle.page.specs.declared.walk.ItemHeader.{ItemHeader}

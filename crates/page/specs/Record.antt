@@ -1,5 +1,6 @@
--- Document 01, Result numbers: the record of a sector t: "state, sequence (0 if free), Written, Erased, Empty, Illegal (all 0 if free)". Assumes nothing.
-use mathlib.Core.Bool.{Bool, cond}
+-- Rule. Document 01, Result numbers: the record of a sector t: "state, sequence (0 if free), Written, Erased, Empty, Illegal (all 0 if free)". Assumes
+-- nothing.
+use mathlib.Core.Bool.{cond}
 use mathlib.Core.List.{List}
 use Prim.Native.Nat.{ℕ}
 use Rattle.entry.specs.States.{totalsOf}

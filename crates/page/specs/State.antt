@@ -1,4 +1,4 @@
--- Document 01, Reading a page: the state of a sector t of 4,096 bytes. Assumes nothing.
+-- Rule. Document 01, Reading a page: the state of a sector t of 4,096 bytes. Assumes nothing.
 use mathlib.Core.Bool.{Bool, true, false, cond, _&&_}
 use mathlib.Core.List.{List, [], _∷_}
 use Prim.Native.Nat.{ℕ}

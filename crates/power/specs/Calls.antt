@@ -1,5 +1,5 @@
--- Demand 3 of the calls themselves, by what they promise and nothing else: reclaim with any allowance, then recovery begun any number of times, each time
--- with any allowance and with records enough. A call whose allowance is used up leaves what a power failure at that step leaves. Assumes nothing.
+-- Rule. Demand 3, of the calls themselves, by what they promise and nothing else: reclaim with any allowance, then recovery begun any number of times, each
+-- time with any allowance and with records enough. A call whose allowance is used up leaves what a power failure at that step leaves. Assumes nothing.
 use mathlib.Core.Path.{_≡_}
 use mathlib.Core.Bool.{false}
 use mathlib.Core.List.{List}

@@ -1,4 +1,5 @@
--- What a power failure leaves of a list of steps: some made whole, then at most one more made in part. Demand 3 for such cuts. Assumes nothing.
+-- Rule. Demand 3, for cuts that may tear a step: what a power failure leaves of a list of steps, some made whole, then at most one more made in part. Assumes
+-- nothing.
 use mathlib.Core.Path.{_≡_}
 use mathlib.Core.Logic.{_⊎_}
 use mathlib.Core.List.{List, _∷_}

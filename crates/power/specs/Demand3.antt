@@ -1,7 +1,7 @@
--- Demand 3: "Take a store that recovery accepts and leaves unchanged, with no blob part in namespace 0, no Active or Freeing page, a free sector, a page with
--- fewer than 126 written entries, page sequences distinct and below 0xFFFFFFF0, and no two items sharing namespace, key and chunk index. Reclaim, cut after
--- any number of flash steps, then recovery, itself cut and begun again any number of times and at last run to its end: the store holds exactly the items it
--- held before, each once, header and payload byte for byte, and no fewer free sectors. A step is one 4-byte word programmed or one sector erased."
+-- Rule. Demand 3: "Take a store that recovery accepts and leaves unchanged, with no blob part in namespace 0, no Active or Freeing page, a free sector, a
+-- page with fewer than 126 written entries, page sequences distinct and below 0xFFFFFFF0, and no two items sharing namespace, key and chunk index. Reclaim,
+-- cut after any number of flash steps, then recovery, itself cut and begun again any number of times and at last run to its end: the store holds exactly the
+-- items it held before, each once, header and payload byte for byte, and no fewer free sectors. A step is one 4-byte word programmed or one sector erased."
 -- Reclaim's and recovery's lists of steps are those that the calls' promises cite. Assumes nothing.
 use mathlib.Core.Path.{_≡_}
 use mathlib.Core.Bool.{true, false, _&&_, _||_}

@@ -1,7 +1,7 @@
--- The general form of demand 3, for a store in which recovery has work to do: "No Active or Freeing page, a free sector, a page below 126, sequences distinct
--- and below 0xFFFFFFF0, no shared (namespace, key, chunk index), no blob part in namespace 0, no two items but chunks sharing a namespace above 0 and a key,
--- indices of unsound versions of span 1. Reclaim cut anywhere, then recovery cut any number of times and at last run to its end: exactly the items that
--- recovery leaves of the uncut store." Demand 3, where recovery leaves all, is its corollary. Assumes nothing.
+-- Rule. Demand 3, its general form, for a store in which recovery has work to do: "No Active or Freeing page, a free sector, a page below 126, sequences
+-- distinct and below 0xFFFFFFF0, no shared (namespace, key, chunk index), no blob part in namespace 0, no two items but chunks sharing a namespace above 0
+-- and a key, indices of unsound versions of span 1. Reclaim cut anywhere, then recovery cut any number of times and at last run to its end: exactly the items
+-- that recovery leaves of the uncut store." Demand 3, where recovery leaves all, is its corollary. Assumes nothing.
 use mathlib.Core.Path.{_≡_}
 use mathlib.Core.Bool.{true, not, _&&_, _||_}
 use mathlib.Core.List.{List}

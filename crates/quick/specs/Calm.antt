@@ -1,4 +1,4 @@
--- Calm: what makes stages 3 and 4 find nothing to repair, a fact of sums over the items' bytes. Assumes nothing.
+-- Bridge: calm items, of which stages 3 and 4 find nothing to repair: a fact of sums over the items' bytes. Assumes nothing.
 use mathlib.Core.Path.{_≡_}
 use mathlib.Core.Bool.{Bool, _&&_, cond}
 use mathlib.Core.List.{List}

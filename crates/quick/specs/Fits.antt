@@ -1,4 +1,4 @@
--- What is filled and tested: by it the items are calm. Assumes nothing.
+-- Bridge: what is filled and tested: by it the items are calm. Assumes nothing.
 use mathlib.Core.Path.{_≡_}
 use mathlib.Core.Bool.{Bool, true, _&&_}
 use mathlib.Core.List.{List, _++_}

@@ -1,4 +1,4 @@
--- The name that an item is looked up by, as one number: namespace and key, and of a chunk its chunk index too. Assumes nothing.
+-- Bridge: the name that an item is looked up by, as one number: namespace and key, and of a chunk its chunk index too. Assumes nothing.
 use mathlib.Core.Bool.{Bool, cond, _||_}
 use mathlib.Core.List.{List}
 use Prim.Native.Nat.{ℕ, _+_, _*_, _/_, _%_, _^_}

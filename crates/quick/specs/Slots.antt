@@ -1,4 +1,4 @@
--- A table t of 4,096 slots over the items of an image l: a slot holds an item's place, and 0 where it is free. Assumes nothing.
+-- Bridge: a table t of 4,096 slots over the items of an image l: a slot holds an item's place, and 0 where it is free. Assumes nothing.
 use mathlib.Core.Bool.{Bool, cond}
 use mathlib.Core.List.{List}
 use Prim.Native.Nat.{ℕ, zero, suc, _+_, _%_, _≤_}

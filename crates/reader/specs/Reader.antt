@@ -1,5 +1,5 @@
--- Document 01, Reading a page: "An item reader keeps the lent sector and its place on it, and hands out the next item until none is left. A Blank or Corrupt
--- sector has none. A length other than 4,096 is result 1." Assumes nothing.
+-- Rule. Document 01, Reading a page: "An item reader keeps the lent sector and its place on it, and hands out the next item until none is left. A Blank or
+-- Corrupt sector has none. A length other than 4,096 is result 1." Assumes nothing.
 use mathlib.Core.Bool.{Bool, cond, _&&_}
 use mathlib.Core.List.{List, [], _∷_}
 use Prim.Native.Nat.{ℕ, zero, suc, _+_}

@@ -1,4 +1,4 @@
--- The code's answer where no sector is free. Assumes nothing.
+-- Bridge: the code's answer where no sector is free. Assumes nothing.
 use mathlib.Core.Option.{Option, none, some}
 use Prim.Native.Nat.{ℕ}
 use Rattle.reclaim.specs.declared.plan.Target.{Target}

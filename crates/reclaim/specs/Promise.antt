@@ -1,4 +1,5 @@
--- What reclaim promises: of the image l, with n steps allowed, the image m and the answer r. Assumes nothing.
+-- Rule. Document 01, What the promises have to say: what reclaim promises, of the image l, with n steps allowed, the image m and the answer r. Assumes
+-- nothing.
 use mathlib.Core.Path.{_≡_}
 use mathlib.Core.Bool.{cond}
 use mathlib.Core.List.{List}

@@ -1,4 +1,4 @@
--- Document 01, Reclaim: points, choice and refusals of a page list ps with its free list fs, and the list of steps for an image l. Assumes nothing.
+-- Rule. Document 01, Reclaim: points, choice and refusals of a page list ps with its free list fs, and the list of steps for an image l. Assumes nothing.
 use mathlib.Core.Bool.{Bool, true, false, cond}
 use mathlib.Core.Option.{Option, none, some}
 use mathlib.Core.List.{List, [], _∷_, getLast?}

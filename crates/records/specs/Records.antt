@@ -1,5 +1,5 @@
--- Document 01, Result numbers: "The page list goes into lent page records, one a sector, in sector order, after recovery's last step .. Records past the
--- sectors stay unchanged." Assumes nothing.
+-- Rule. Document 01, Result numbers: "The page list goes into lent page records, one a sector, in sector order, after recovery's last step .. Records past
+-- the sectors stay unchanged." Assumes nothing.
 use mathlib.Core.Path.{_≡_}
 use mathlib.Core.List.{List, [], _∷_, _++_}
 use Prim.Native.Nat.{ℕ, zero, suc}

@@ -1,4 +1,5 @@
--- What recovery promises: of the image l and the lent records ys, with n steps allowed, the image m, the records zs and the answer r. Assumes nothing.
+-- Rule. Document 01, What the promises have to say: what recovery promises, of the image l and the lent records ys, with n steps allowed, the image m, the
+-- records zs and the answer r. Assumes nothing.
 use mathlib.Core.Path.{_≡_}
 use mathlib.Core.Bool.{cond}
 use mathlib.Core.List.{List, [], _++_}

@@ -1,4 +1,4 @@
--- Document 01, Recovery, in order: the list of steps that the rules give for an image l, each with its stage. Each stage reads the image that the steps
+-- Rule. Document 01, Recovery, in order: the list of steps that the rules give for an image l, each with its stage. Each stage reads the image that the steps
 -- before it left. Assumes nothing.
 use mathlib.Core.Bool.{Bool, cond, not, _&&_}
 use mathlib.Core.List.{List, [], _∷_, _++_}

@@ -1,4 +1,4 @@
--- Document 01, Recovery 2 and Reclaim: "initialise a free sector .., copy the source's items in walk order, .. erase the source". Assumes nothing.
+-- Rule. Document 01, Recovery 2 and Reclaim: "initialise a free sector .., copy the source's items in walk order, .. erase the source". Assumes nothing.
 use mathlib.Core.List.{List, [], _∷_, _++_}
 use Prim.Native.Nat.{ℕ, _+_, _*_}
 use Rattle.entry.specs.Fields.{spanOf}

@@ -1,4 +1,4 @@
--- Where a run of the places ends. Assumes nothing.
+-- Bridge: where a run of the places ends. Assumes nothing.
 use mathlib.Core.Path.{_≡_}
 use mathlib.Core.List.{List, _∷_}
 use Prim.Native.Nat.{ℕ, _≤_, _<_}

@@ -1,15 +1,12 @@
 -- The lists of one sector more. Assumes nothing.
-use mathlib.Core.Path.{_≡_, refl, sym, ap, _∙_}
+use mathlib.Core.Path.{_≡_, refl}
 use mathlib.Core.Bool.{Bool, true, false}
 use mathlib.Core.List.{List, [], _∷_, _++_, append-nil}
-use Prim.Native.Nat.{ℕ, suc, _+_, _-_, _*_}
-use native.Mathlib.Omega.{arith}
+use Prim.Native.Nat.{ℕ, _+_}
 use native.Mathlib.Numerals.{add-one}
-use lib.ListN.{take, drop}
 use Rattle.flash.specs.Step.{sector}
 use Rattle.page.specs.State.{stateOf, isFree}
 use Rattle.page.specs.Record.{recordOf}
-use Rattle.table.specs.declared.Page.{Page}
 use Rattle.table.specs.Table.{pageAt, pagesTo, freesTo}
 
 -- a record's state is its sector's

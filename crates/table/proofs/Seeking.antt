@@ -12,7 +12,6 @@ use Rattle.lists.proofs.Member.{_∈_, none≢some}
 use Rattle.page.specs.declared.state.PageState.{PageState}
 use Rattle.page.specs.declared.state.PageState.the-variants.{Blank, Corrupt, Active, Full, Freeing}
 use Rattle.table.specs.declared.Page.{Page}
-use Rattle.table.specs.declared.Sought.{Sought}
 use Rattle.table.specs.declared.Sought.the-variants.{Found, Nothing}
 use Rattle.table.specs.Table.{active, freeing, activePage, freeingPage}
 use Rattle.table.specs.Sought.{soughtOf, betterOf, betterAmong, codeOf, inState}

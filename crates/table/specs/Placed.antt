@@ -1,4 +1,4 @@
--- Where the pages of a list and the free sectors stand: each sector of the image once at most, and no other. Assumes nothing.
+-- Bridge: where the pages of a list and the free sectors stand: each sector of the image once at most, and no other. Assumes nothing.
 use mathlib.Core.List.{List}
 use Prim.Native.Nat.{ℕ, _+_, _≤_}
 use lib.Dec.{eqb, ltb}

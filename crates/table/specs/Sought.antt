@@ -1,4 +1,4 @@
--- A page that is sought in a list, as the code answers it, and a list's choice page by page from its end. Assumes nothing.
+-- Bridge: a page that is sought in a list, as the code answers it, and a list's choice page by page from its end. Assumes nothing.
 use mathlib.Core.Bool.{Bool, cond}
 use mathlib.Core.Option.{Option, none, some}
 use Prim.Native.Nat.{ℕ}

@@ -1,14 +1,14 @@
--- Document 01, Recovery: "Page list: sectors ascending. Free list the same; the last is taken first, and an erased sector joins at the end." Assumes nothing.
+-- Rule. Document 01, Recovery: "Page list: sectors ascending. Free list the same; the last is taken first, and an erased sector joins at the end." Assumes
+-- nothing.
 use mathlib.Core.Bool.{Bool, true, false, cond, _&&_}
 use mathlib.Core.List.{List, [], _∷_, _++_}
-use Prim.Native.Nat.{ℕ, zero, suc, _≤_, _*_, _/_, _%_}
+use Prim.Native.Nat.{ℕ, zero, suc, _≤_, _/_, _%_}
 use lib.Dec.{eqb, leb}
 use mathlib.Core.Path.{_≡_}
 use lib.ListN.{length, take}
 use Rattle.flash.specs.Step.{sector}
 use Rattle.page.specs.declared.state.PageState.{PageState}
 use Rattle.page.specs.declared.state.PageState.the-variants.{Blank, Corrupt, Active, Full, Freeing}
-use Rattle.page.specs.declared.«record».PageRecord.{PageRecord}
 use Rattle.page.specs.State.{stateOf, isFree}
 use Rattle.page.specs.Record.{recordOf}
 use Rattle.page.specs.Walk.{Laid, walk}

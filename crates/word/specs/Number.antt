@@ -1,4 +1,4 @@
--- Bytes and the numbers they make. Document 01, Sector layout: "numbers little-endian". Assumes nothing.
+-- Rule. Document 01, Sector layout: bytes and the numbers they make, "numbers little-endian". Assumes nothing.
 use mathlib.Core.List.{List}
 use Prim.Native.Nat.{ℕ, zero, suc, _+_, _-_, _*_}
 use lib.ListN.{getD, take, drop}

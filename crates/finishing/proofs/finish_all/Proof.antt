@@ -11,7 +11,6 @@ use Rattle.table.proofs.Seeking.{first-same, freeing-is, sought-found, sought-n
 use Rattle.finishing.specs.Finishing.{finishing}
 use Rattle.finishing.proofs.Rounds.{rounds-none, rounds-idle, rounds-more, Left, left-more}
 use mathlib.Core.Path.{_≡_, refl, sym, ap, _∙_}
-use Prim.Native.Nat.{_-_}
 use native.Mathlib.Omega.{arith}
 use lib.ListN.{length}
 use borrow.Author.Needs.{needs}

@@ -1,7 +1,6 @@
 -- `table::drop_free` meets its contract: the front of an array that is one shorter. Assumes nothing.
 use Rattle.table.proofs.Out.{front-rest}
 use mathlib.Core.Path.{refl, sym}
-use Prim.Native.Nat.{_-_}
 use native.Mathlib.Omega.{arith}
 use borrow.Author.Needs.{needs}
 use Rattle.table.proofs.drop_free.Statement.{statement}

@@ -8,7 +8,7 @@ use Rattle.table.specs.Table.{listed}
 use Rattle.table.proofs.Listing.{element, listed-end}
 use Rattle.table.proofs.Out.{carry-on}
 use mathlib.Core.Path.{_≡_, refl, sym, ap, _∙_}
-use Prim.Native.Nat.{ℕ, _+_, _-_, _<_, _≤_}
+use Prim.Native.Nat.{ℕ, _-_, _<_, _≤_}
 use native.Mathlib.Omega.{arith}
 use borrow.Author.Needs.{needs}
 use lib.ListN.{length, take, drop}

@@ -1,5 +1,5 @@
 -- `finish::all_like` meets its contract: each item passed is like some one, so those from here on decide. Assumes nothing.
-use mathlib.Core.Bool.{true, false}
+use mathlib.Core.Bool.{true}
 use mathlib.Core.List.{List}
 use Rattle.entry.specs.Fields.{entryAt, spanOf}
 use Rattle.page.specs.declared.walk.Reading.the-variants.{Item, Nothing}

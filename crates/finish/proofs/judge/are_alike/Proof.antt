@@ -1,6 +1,5 @@
 -- `finish::are_alike` meets its contract: each arm is its comparison. Assumes nothing.
 use Rattle.finish.specs.Alike.{alikeBy}
-use Prim.Native.Nat.{_-_}
 use borrow.Author.Needs.{needs}
 use Rattle.finish.proofs.judge.are_alike.Statement.{statement}
 use Rattle.finish.proofs.judge.are_alike.Tie as tie

@@ -1,7 +1,6 @@
 -- `finish::matches` meets its contract: the two lent parts are the two sectors. Assumes nothing.
 use Rattle.table.specs.Table.{itemsIn}
 use Rattle.flash.proofs.Sectors.{lent-sector}
-use Prim.Native.Nat.{_-_}
 use borrow.Author.Needs.{needs}
 use Rattle.finish.proofs.judge.matches.Statement.{statement}
 use Rattle.finish.proofs.judge.matches.Tie as tie

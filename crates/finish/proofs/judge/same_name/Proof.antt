@@ -1,7 +1,6 @@
 -- `finish::same_name` meets its contract: the first test that fails decides. Assumes nothing.
 use borrow.Author.Tests.{eq-eqb, ne-eqb}
 use Rattle.finish.specs.Finish.{sameBytes, nameOf}
-use Prim.Native.Nat.{_-_}
 use borrow.Author.Needs.{needs}
 use Rattle.finish.proofs.judge.same_name.Statement.{statement}
 use Rattle.finish.proofs.judge.same_name.Tie as tie

@@ -1,6 +1,5 @@
 -- `finish::newer_of` meets its contract: each test that led to a return decides the definition's. Assumes nothing.
 use borrow.Author.Tests.{le-leb, lt-leb}
-use Prim.Native.Nat.{_-_}
 use borrow.Author.Needs.{needs}
 use Rattle.finish.proofs.newest.newer_of.Statement.{statement}
 use Rattle.finish.proofs.newest.newer_of.Tie as tie

@@ -7,7 +7,6 @@ use Rattle.table.proofs.Places.{page-fits}
 use Rattle.finish.specs.Finish.{copyOf, roundWith}
 use Rattle.finish.proofs.Alike.{copy-is}
 use mathlib.Core.Path.{_≡_, refl, sym, _∙_}
-use Prim.Native.Nat.{_-_}
 use borrow.Author.Needs.{needs}
 use Rattle.finish.proofs.rounds.beside_active.Statement.{statement}
 use Rattle.finish.proofs.rounds.beside_active.Tie as tie

@@ -3,7 +3,7 @@
 use mathlib.Core.Option.{none, some}
 use mathlib.Core.Logic.{inl}
 use mathlib.Core.List.{List, [], _∷_, _++_, getLast?}
-use Rattle.flash.specs.Step.{sector, run}
+use Rattle.flash.specs.Step.{sector}
 use Rattle.flash.specs.Did.{Did}
 use Rattle.flash.proofs.Frame.{length-run}
 use Rattle.flash.proofs.Laws.{did-none, did-all}

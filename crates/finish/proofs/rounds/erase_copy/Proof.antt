@@ -10,7 +10,7 @@ use Rattle.table.proofs.Held.{held-free, holds-own}
 use Rattle.table.proofs.Places.{page-fits, freed-placed}
 use Rattle.finish.proofs.Makes.{makes-then, makes-same, makes-stop, next-out}
 use mathlib.Core.Path.{_≡_, refl, ap, _∙_}
-use Prim.Native.Nat.{ℕ, _+_, _-_}
+use Prim.Native.Nat.{ℕ}
 use native.Mathlib.Omega.{arith}
 use lib.ListN.{length}
 use borrow.Author.Needs.{needs}

@@ -5,7 +5,6 @@ use Prim.Native.Nat.{_+_, _*_, _<_, _≤_}
 use native.Mathlib.Omega.{arith}
 use borrow.Author.Tests.{eq-eqb, ne-eqb, le-leb, lt-leb}
 use lib.Dec.{lit<, lit≤}
-use Rattle.word.specs.Number.{part}
 use Rattle.word.proofs.Bytes.{part-byte, le-part}
 use Rattle.entry.specs.States.{stateAt}
 use Rattle.entry.specs.Kinds.{kindOf, known}
