@@ -1,9 +1,9 @@
 -- A Blank or Corrupt sector has no item at any place; and a reader, which judges its sector once, where it begins, hands out at each of its places what
 -- is there for one who asks at that place alone. Assumes nothing.
 use mathlib.Core.Path.{_≡_, refl, sym, ap, _∙_}
-use mathlib.Core.Bool.{Bool, true, false, cond, _&&_}
+use mathlib.Core.Bool.{Bool, true, false}
 use mathlib.Core.List.{List, []}
-use Prim.Native.Nat.{ℕ, zero, suc, _<_, _≤_}
+use Prim.Native.Nat.{ℕ, zero, suc, _≤_}
 use native.Mathlib.Omega.{arith}
 use borrow.Author.Tests.{eq-eqb, eqb-true}
 use lib.Dec.{eqb}
@@ -38,8 +38,8 @@ module _ (s : List ℕ) where
   unfolding beginsAt
   begins-first h = rw h
 
-  -- from the end on a reader hands out nothing
-  end-there : length s ≡ 4096 → (e : ℕ) → 126 ≤ e → stepFrom s e ≡ stepOf []
+  -- from the end on nothing is handed out, however often one asks
+  pub end-there : length s ≡ 4096 → (e : ℕ) → 126 ≤ e → stepFrom s e ≡ stepOf []
   unfolding stepFrom
   end-there w e h = rw (eq-eqb _ _ w) (step-end s e h)
 

@@ -1,19 +1,18 @@
 -- The reader hands out the items of its sector, each once and in order, and then no more; so too one who asks at each place anew. Assumes nothing.
 use mathlib.Core.Path.{_≡_, refl, sym, ap, _∙_}
-use mathlib.Core.Bool.{Bool, true, false, cond, _&&_}
+use mathlib.Core.Bool.{Bool, true, false}
 use mathlib.Core.List.{List, [], _∷_, map}
-use Prim.Native.Nat.{ℕ, zero, suc, _+_, _*_, _<_, _≤_}
+use Prim.Native.Nat.{ℕ, zero, suc, _+_, _*_, _<_}
 use native.Mathlib.Omega.{arith}
 use borrow.Author.Tests.{eq-eqb}
-use lib.Dec.{eqb}
 use lib.ListN.{length}
 use Rattle.entry.specs.Fields.{entryAt, spanOf}
 use Rattle.page.specs.declared.walk.ItemHeader.{ItemHeader}
 use Rattle.page.specs.State.{stateOf, isFree}
-use Rattle.page.specs.Walk.{Laid, laidAt, isItem, walk, itemsOf, headerOf}
+use Rattle.page.specs.Walk.{Laid, laidAt, walk, itemsOf, headerOf}
 use Rattle.page.proofs.Walking.{item-span, walk-past, Ahead, done, meets, ahead}
 use Rattle.reader.specs.declared.Step.{Step}
-use Rattle.reader.specs.Reader.{stepOf, stepFrom, hasNone, stepAt, beginsAt, handOn, handed}
+use Rattle.reader.specs.Reader.{stepOf, stepFrom, hasNone, stepAt, beginsAt, handed}
 use Rattle.reader.proofs.Told.{span-told}
 use Rattle.reader.proofs.Begins.{begins-end, begins-first, begins-once, none-there, some-there}
 

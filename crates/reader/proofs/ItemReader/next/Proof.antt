@@ -45,7 +45,7 @@ use denote.Triple.Spec.{Meets, tripleOf}
 use denote.Triple.Table.{entered, cited}
 use denote.Triple.Walked.{says, Stays, stay-ref, walkOf, goes-ref, Walks, ends-at, walked, walk-meets}
 use denote.Triple.Clauses.{ensured, lasts}
-use Rattle.reader.specs.Reader.{stepFrom, movedReader}
+use Rattle.reader.specs.Reader.{stepFrom}
 use Rattle.reader.specs.declared.ItemReader.{ItemReader}
 use Rattle.reader.specs.declared.Step.{Step}
 use Rattle.reader.proofs.ItemReader as T
