@@ -11,10 +11,10 @@ ghost use Rattle.flash.specs.Did.{Did};
 ghost use Rattle.flash.specs.Words.{words};
 ghost use Rattle.item.specs.Copy.{fullMark, copying};
 
-// Copies `n` words from `from` on to `to` on, ascending. The image from `to` on is lent to the function that programs a word; a word is read
-// before it is lent, and the two parts do not meet.
-fn copy_words(image: &mut [u8], from: usize, to: usize, n: usize, allowed: u64) -> Ran
-    requires { ⌜ (from + n * 4 ≤ length (now image)) × (to + n * 4 ≤ length (now image)) × ((from + n * 4 ≤ to) ⊎ (to + n * 4 ≤ from)) ⌝ }
+// Copies `n` words from `from` on to `to` on, ascending. The target sector's part from `to` up to its end `end` is lent to the function that programs a
+// word; a word is read before the part is lent, and source and target do not meet.
+fn copy_words(image: &mut [u8], from: usize, to: usize, end: usize, n: usize, allowed: u64) -> Ran
+    requires { ⌜ (from + n * 4 ≤ length (now image)) × (to + n * 4 ≤ end) × (end ≤ length (now image)) × ((from + n * 4 ≤ to) ⊎ (to + n * 4 ≤ from)) ⌝ }
     ensures { λ r. ⌜ Did (words to (part (now (image .entry)) from (n * 4)) 0 n) allowed (now (image .entry)) (now (image .exit)) r ⌝ }
 {
     let mut left = allowed;
@@ -26,7 +26,7 @@ fn copy_words(image: &mut [u8], from: usize, to: usize, n: usize, allowed: u64) 
         let b1 = image[a + 1];
         let b2 = image[a + 2];
         let b3 = image[a + 3];
-        let r = flash::program_word(&mut image[to..], i, b0, b1, b2, b3, left);
+        let r = flash::program_word(&mut image[to..end], i, b0, b1, b2, b3, left);
         let Ran::Done(rest) = r else {
             return Ran::Stopped;
         };
@@ -62,7 +62,7 @@ pub fn copy_item(
 {
     let from = source + 64 + i * 32;
     let to = target + 64 + j * 32;
-    let r1 = copy_words(image, from, to, n * 8, allowed);
+    let r1 = copy_words(image, from, to, target + 4096, n * 8, allowed);
     let Ran::Done(left1) = r1 else {
         return Ran::Stopped;
     };

@@ -1,72 +1,78 @@
--- The reader hands out the items of its sector, each once and in order, and then no more. Assumes nothing.
+-- The reader hands out the items of its sector, each once and in order, and then no more; so too one who asks at each place anew. Assumes nothing.
 use mathlib.Core.Path.{_≡_, refl, sym, ap, _∙_}
-use mathlib.Core.Bool.{Bool, true, false, cond, _&&_}
+use mathlib.Core.Bool.{Bool, true, false}
 use mathlib.Core.List.{List, [], _∷_, map}
-use mathlib.Core.Logic.{_⊎_, inl, inr}
-use Prim.Native.Nat.{ℕ, zero, suc, _+_, _*_, _<_, _≤_}
+use Prim.Native.Nat.{ℕ, zero, suc, _+_, _*_, _<_}
 use native.Mathlib.Omega.{arith}
-use borrow.Author.Tests.{eq-eqb, ne-eqb}
-use lib.Dec.{eqb}
+use borrow.Author.Tests.{eq-eqb}
 use lib.ListN.{length}
 use Rattle.entry.specs.Fields.{entryAt, spanOf}
 use Rattle.page.specs.declared.walk.ItemHeader.{ItemHeader}
 use Rattle.page.specs.State.{stateOf, isFree}
-use Rattle.page.specs.Walk.{Laid, laidAt, isItem, walk, itemsOf, headerOf}
-use Rattle.page.proofs.Walking.{item-span, Ahead, done, meets, ahead}
-use Rattle.reader.specs.Reader.{noneFrom, stepOf, stepAt, handOn, handed}
+use Rattle.page.specs.Walk.{Laid, laidAt, walk, itemsOf, headerOf}
+use Rattle.page.proofs.Walking.{item-span, walk-past, Ahead, done, meets, ahead}
+use Rattle.reader.specs.declared.Step.{Step}
+use Rattle.reader.specs.Reader.{stepOf, stepFrom, hasNone, stepAt, beginsAt, handed}
 use Rattle.reader.proofs.Told.{span-told}
+use Rattle.reader.proofs.Begins.{begins-end, begins-first, begins-once, none-there, some-there}
 
 abbrev pub told : Laid → ItemHeader
 told x = headerOf (x .entry) (x .raw)
 
 module _ (s : List ℕ) (whole : length s ≡ 4096) where
-  -- where the page is not judged free, a step is the walk's
-  step-walks : (e : ℕ) → noneFrom s e ≡ false → stepAt s e ≡ stepOf (walk s 126 e)
-  unfolding stepAt
-  step-walks e h = rw (eq-eqb _ _ whole, h)
-
-  step-none : (e : ℕ) → noneFrom s e ≡ true → stepAt s e ≡ stepOf []
-  unfolding stepAt
-  step-none e h = rw (eq-eqb _ _ whole, h)
-
-  on : (e : ℕ) → 0 < e → noneFrom s e ≡ false
-  on e h =
-      let ne : e ≡ 0 → ⊥ = λ q. omega arith in
-      rw (ne-eqb e 0 ne)
+  step-walks : (e : ℕ) → stepFrom s e ≡ stepOf (walk s 126 e)
+  unfolding stepFrom
+  step-walks e = rw (eq-eqb _ _ whole)
 
   -- from a place on
-  hands : (n e : ℕ) → 126 < e + n → noneFrom s e ≡ false → handed s n e ≡ map told (walk s 126 e)
+  hands : (n e : ℕ) → 126 < e + n → handed (stepFrom s) n e ≡ map told (walk s 126 e)
   unfolding handed stepOf
-  hands zero e h f = go (ahead s 126 e (omega arith))
+  hands zero e h = go (ahead s 126 e (omega arith))
     where
       go : Ahead s e → [] ≡ map told (walk s 126 e)
       go (done w) = sym (ap (map told) w)
       go (meets j l q w) = let r = item-span s j q in absurd (omega arith)
-  hands (suc n) e h f = go (λ m g k. hands n m g k) (ahead s 126 e (omega arith))
+  hands (suc n) e h = go (λ m g. hands n m g) (ahead s 126 e (omega arith))
     where
-      go : ((m : ℕ) → 126 < m + n → noneFrom s m ≡ false → handed s n m ≡ map told (walk s 126 m)) → Ahead s e → handed s (suc n) e ≡ map told (walk s 126 e)
-      go ih (done w) = rw (step-walks e f, w)
+      go : ((m : ℕ) → 126 < m + n → handed (stepFrom s) n m ≡ map told (walk s 126 m)) → Ahead s e → handed (stepFrom s) (suc n) e ≡ map told (walk s 126 e)
+      go ih (done w) = rw (step-walks e, w)
       go ih (meets j l q w) =
           let r = item-span s j q in
           let m = j + spanOf (entryAt s j) in
-          rw (step-walks e f, w, span-told s (64 + j * 32) (spanOf (entryAt s j)) (r .0)) (ap (λ (hs : List ItemHeader). told (laidAt s j) ∷ hs) (ih m (omega arith) (on m (omega arith))))
+          rw (step-walks e, w, span-told s (64 + j * 32) (spanOf (entryAt s j)) (r .0)) (ap (λ (hs : List ItemHeader). told (laidAt s j) ∷ hs) (ih m (omega arith)))
 
-  none : (n : ℕ) → noneFrom s 0 ≡ true → handed s (suc n) 0 ≡ []
-  unfolding handed stepOf
-  none n e = rw (step-none 0 e)
+  none : hasNone s ≡ true → itemsOf s ≡ walk s 126 126
+  unfolding itemsOf hasNone
+  none h =
+      let f : isFree (stateOf s) ≡ true = sym (rw (eq-eqb _ _ whole)) ∙ h in
+      rw f (sym (walk-past s 126 126 (omega arith)))
 
-  free : isFree (stateOf s) ≡ true → itemsOf s ≡ []
-  unfolding itemsOf
-  free e = rw e
+  some : hasNone s ≡ false → itemsOf s ≡ walk s 126 0
+  unfolding itemsOf hasNone
+  some h =
+      let f : isFree (stateOf s) ≡ false = sym (rw (eq-eqb _ _ whole)) ∙ h in
+      rw f
 
-  used : isFree (stateOf s) ≡ false → itemsOf s ≡ walk s 126 0
-  unfolding itemsOf
-  used e = rw e
-
-  -- a whole sector, from its first entry on
-  pub hands-out : handed s 127 0 ≡ map told (itemsOf s)
-  hands-out = go (isFree (stateOf s)) refl
+  -- a reader, from where it begins on: all items of the sector
+  pub hands-out : handed (stepFrom s) 127 (beginsAt s) ≡ map told (itemsOf s)
+  hands-out = go (hasNone s) refl
     where
-      go : (b : Bool) → isFree (stateOf s) ≡ b → handed s 127 0 ≡ map told (itemsOf s)
-      go true e = none 126 e ∙ sym (ap (map told) (free e))
-      go false e = hands 127 0 (omega arith) e ∙ sym (ap (map told) (used e))
+      go : (b : Bool) → hasNone s ≡ b → handed (stepFrom s) 127 (beginsAt s) ≡ map told (itemsOf s)
+      go true h = ap (handed (stepFrom s) 127) (begins-end s h) ∙ hands 127 126 (omega arith) ∙ sym (ap (map told) (none h))
+      go false h = ap (handed (stepFrom s) 127) (begins-first s h) ∙ hands 127 0 (omega arith) ∙ sym (ap (map told) (some h))
+
+-- one who asks at each place anew, from entry 0 on, is handed the same
+pub hands-alike : (s : List ℕ) (n : ℕ) → handed (stepAt s) n 0 ≡ handed (stepFrom s) n (beginsAt s)
+unfolding handed stepOf
+hands-alike s zero = refl
+hands-alike s (suc n) = go (hasNone s) refl
+  where
+    go : (b : Bool) → hasNone s ≡ b → handed (stepAt s) (suc n) 0 ≡ handed (stepFrom s) (suc n) (beginsAt s)
+    go true h =
+        let first : stepAt s 0 ≡ stepOf [] = none-there s h 0 in
+        let begun : stepFrom s (beginsAt s) ≡ stepOf [] = begins-once s ∙ none-there s h (beginsAt s) in
+        rw (first, begun)
+    go false h = rw (begins-first s h) (ap (λ (f : ℕ → Step). handed f (suc n) 0) (λ i e. some-there s h e i))
+
+pub reads-out : (s : List ℕ) → length s ≡ 4096 → handed (stepAt s) 127 0 ≡ map told (itemsOf s)
+reads-out s whole = hands-alike s 127 ∙ hands-out s whole

@@ -10,7 +10,7 @@ use Rattle.word.proofs.Bytes.{part-byte, le-part, be-part}
 use Rattle.entry.specs.Fields.{entryAt, spanOf, keyOf}
 use Rattle.page.specs.Walk.{isItem, walk, headerOf}
 use Rattle.page.proofs.Walking.{item-span, walk-past, walk-item}
-use Rattle.reader.specs.declared.Found.the-variants.{Item, End}
+use Rattle.reader.specs.declared.Found.the-variants.{Item}
 use Rattle.reader.specs.Reader.{stepOf}
 
 module _ (t : List ℕ) (at n : ℕ) (h : 1 ≤ n) where

@@ -20,21 +20,33 @@ unfoldable pub stepOf : List Laid → Step
 stepOf [] = record { found = End; next = 126 }
 stepOf (x ∷ xs) = record { found = Item (headerOf (x .entry) (x .raw)); next = x .entry + spanOf (x .raw) }
 
--- "A Blank or Corrupt sector has none": judged where the walk begins
-abbrev pub noneFrom : List ℕ → ℕ → Bool
-noneFrom s e = eqb e 0 && isFree (stateOf s)
+-- what a reader hands out whose place is e, on the lent bytes s: the walk's next from there on, nothing judged. "A length other than 4,096 is result 1."
+unfoldable pub stepFrom : List ℕ → ℕ → Step
+stepFrom s e = cond (eqb (length s) 4096) (stepOf (walk s 126 e)) (record { found = NotSector; next = e })
 
--- what is handed out at place e of the lent bytes s
+-- "A Blank or Corrupt sector has none."
+unfoldable pub hasNone : List ℕ → Bool
+hasNone s = eqb (length s) 4096 && isFree (stateOf s)
+
+-- what is handed out at any place e of the lent bytes s: of a sector that has no item none, whatever the place
 unfoldable pub stepAt : List ℕ → ℕ → Step
-stepAt s e = cond (eqb (length s) 4096) (cond (noneFrom s e) (stepOf []) (stepOf (walk s 126 e))) (record { found = NotSector; next = e })
+stepAt s e = cond (hasNone s) (stepOf []) (stepFrom s e)
 
--- a reader begins at the first entry
+-- where a reader begins, and the sector is judged: at the first entry, or, where there is no item, at the end
+unfoldable pub beginsAt : List ℕ → ℕ
+beginsAt s = cond (hasNone s) 126 0
+
 abbrev pub newReader : RefT (List ℕ) → ItemReader
-newReader s = record { sector = s; entry = 0 }
+newReader s = record { sector = s; entry = beginsAt (now s) }
 
 -- the same sector, at the place behind what was handed out
 abbrev pub movedReader : ItemReader → ItemReader
-movedReader r = record { sector = r .sector; entry = stepAt (now (r .sector)) (r .entry) .next }
+movedReader r = record { sector = r .sector; entry = stepFrom (now (r .sector)) (r .entry) .next }
+
+-- the reader of the lent bytes s after n calls of next
+unfoldable pub readerAfter : RefT (List ℕ) → ℕ → ItemReader
+readerAfter s zero = newReader s
+readerAfter s (suc n) = movedReader (readerAfter s n)
 
 -- document 01's number of an answer: a length other than 4,096 is result 1
 abbrev pub resultOf : Found → ℕ
@@ -42,12 +54,12 @@ resultOf (Item h) = 0
 resultOf End = 0
 resultOf NotSector = 1
 
--- what is handed out in n calls from place e on, up to the first answer that is no item
+-- what is handed out in n calls from place e on, up to the first answer that is no item; at a place a call gives what f says
 abbrev pub handOn : Found → List ItemHeader → List ItemHeader
 handOn (Item h) hs = h ∷ hs
 handOn End hs = []
 handOn NotSector hs = []
 
-unfoldable pub handed : List ℕ → ℕ → ℕ → List ItemHeader
-handed s zero e = []
-handed s (suc n) e = handOn (stepAt s e .found) (handed s n (stepAt s e .next))
+unfoldable pub handed : (ℕ → Step) → ℕ → ℕ → List ItemHeader
+handed f zero e = []
+handed f (suc n) e = handOn (f e .found) (handed f n (f e .next))

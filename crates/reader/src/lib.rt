@@ -7,7 +7,7 @@ ghost use Prim.Native.Nat.{_<_, _≤_};
 ghost use lib.ListN.{length};
 ghost use Rattle.crc.specs.Table.{crcTable};
 ghost use Rattle.page.specs.Walk.{walk};
-ghost use Rattle.reader.specs.Reader.{stepOf, stepAt, noneFrom, newReader, movedReader, resultOf};
+ghost use Rattle.reader.specs.Reader.{stepOf, stepFrom, beginsAt, stepAt, newReader, movedReader, resultOf};
 
 // What the reader hands out. `NotSector` is result 1: the lent bytes are not 4,096.
 pub enum Found {
@@ -56,21 +56,9 @@ fn next_item(t: &[u32; 324], s: &[u8], from: usize) -> Step
     }
 }
 
-// Whether the walk that begins at `entry` has nothing to meet: it begins a free sector.
-fn none_from(t: &[u32; 324], s: &[u8], entry: usize) -> bool
-    requires { ⌜ (now t ≡ crcTable) × (length (now s) ≡ 4096) ⌝ }
-    ensures { λ r. ⌜ r ≡ noneFrom (now (s .entry)) entry ⌝ }
-{
-    if entry == 0 {
-        page::is_free(page::page_state(t, s))
-    } else {
-        false
-    }
-}
-
-// What the reader hands out at entry `entry` of the sector. The page is judged where the walk begins, once a sector.
-fn step_at(s: &[u8], entry: usize) -> Step
-    ensures { λ r. ⌜ r ≡ stepAt (now (s .entry)) entry ⌝ }
+// What a reader hands out whose place is `entry`. The sector is not judged here: that is done once, where a reader begins.
+fn step_from(s: &[u8], entry: usize) -> Step
+    ensures { λ r. ⌜ r ≡ stepFrom (now (s .entry)) entry ⌝ }
 {
     if s.len() != 4096 {
         return Step {
@@ -79,13 +67,21 @@ fn step_at(s: &[u8], entry: usize) -> Step
         };
     }
     let t = crc::table();
-    if none_from(&t, s, entry) {
-        return Step {
-            found: Found::End,
-            next: 126,
-        };
-    }
     next_item(&t, s, entry)
+}
+
+// Where a reader of the sector begins: at the first entry; at the end, where the sector is free and has no item.
+pub fn begins_at(sector: &[u8]) -> usize
+    ensures { λ r. ⌜ r ≡ beginsAt (now (sector .entry)) ⌝ }
+{
+    if sector.len() != 4096 {
+        return 0;
+    }
+    let t = crc::table();
+    if page::is_free(page::page_state(&t, sector)) {
+        return 126;
+    }
+    0
 }
 
 pub struct ItemReader<'a> {
@@ -94,18 +90,19 @@ pub struct ItemReader<'a> {
 }
 
 impl<'a> ItemReader<'a> {
-    // A reader at the sector's first entry.
+    // A reader at the place where the sector's items begin. The sector is judged here, once for all its items.
     pub fn new(sector: &'a [u8]) -> ItemReader<'a>
         ensures { λ r. ⌜ r ≡ newReader (sector .entry) ⌝ }
     {
-        ItemReader { sector, entry: 0 }
+        let entry = begins_at(sector);
+        ItemReader { sector, entry }
     }
 
     // The next item; the reader moves on. Past the last item it answers `End`, each time it is asked.
     pub fn next(&mut self) -> Found
-        ensures { λ r. ⌜ (r ≡ stepAt (now (now (self .entry) .sector)) (now (self .entry) .entry) .found) × (now (self .exit) ≡ movedReader (now (self .entry))) ⌝ }
+        ensures { λ r. ⌜ (r ≡ stepFrom (now (now (self .entry) .sector)) (now (self .entry) .entry) .found) × (now (self .exit) ≡ movedReader (now (self .entry))) ⌝ }
     {
-        let step = step_at(self.sector, self.entry);
+        let step = step_from(self.sector, self.entry);
         self.entry = step.next;
         step.found
     }
@@ -117,11 +114,23 @@ fn step_of(found: Found, next: usize) -> Step
     Step { found, next }
 }
 
-// The reader for callers with plain parameters: what it hands out at entry `entry`, and the place to ask at next. A whole sector is read from entry 0 on.
-pub fn read_from(sector: &[u8], entry: usize) -> Step
-    ensures { λ r. ⌜ r ≡ stepAt (now (sector .entry)) entry ⌝ }
+// The reader's `next` for callers with plain parameters: what it hands out at its place `entry`, and its place after that. The place is one that
+// `begins_at` or an earlier step named.
+pub fn read_on(sector: &[u8], entry: usize) -> Step
+    ensures { λ r. ⌜ r ≡ stepFrom (now (sector .entry)) entry ⌝ }
 {
     let mut r = ItemReader { sector, entry };
     let found = r.next();
     step_of(found, r.entry)
+}
+
+// What is handed out at any place, which no answer need have named: the sector is judged in each call. A whole sector is read from entry 0 on.
+pub fn read_from(sector: &[u8], entry: usize) -> Step
+    ensures { λ r. ⌜ r ≡ stepAt (now (sector .entry)) entry ⌝ }
+{
+    let first = begins_at(sector);
+    if entry < first {
+        return read_on(sector, first);
+    }
+    read_on(sector, entry)
 }

@@ -33,9 +33,9 @@ fn put_items(sector: &[u8], out: &mut [u8]) -> usize
     ensures { λ r. ⌜ r ≤ 126 ⌝ }
 {
     let mut count: usize = 0;
-    let mut at: usize = 0;
+    let mut at = reader::begins_at(sector);
     while count < 126 {
-        let step = reader::read_from(sector, at);
+        let step = reader::read_on(sector, at);
         let found = step.found;
         let Found::Item(item) = found else {
             return count;

@@ -20,9 +20,9 @@ pub extern "C" fn timing_walk(sector: &[u8]) -> usize {
 #[no_mangle]
 pub extern "C" fn timing_reader(sector: &[u8]) -> usize {
     let mut count: usize = 0;
-    let mut at: usize = 0;
+    let mut at = reader::begins_at(sector);
     while count < 126 {
-        let step = reader::read_from(sector, at);
+        let step = reader::read_on(sector, at);
         let found = step.found;
         let Found::Item(_) = found else {
             return count;

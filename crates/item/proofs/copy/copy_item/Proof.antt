@@ -16,7 +16,7 @@ use Rattle.item.proofs.copy.copy_item.Statement.{statement}
 use Rattle.item.proofs.copy.copy_item.Tie as tie
 
 copy-words-requires : tie.Need-copy-words-requires
-copy-words-requires c κs = (omega arith, omega arith, ⊎-elim (λ g. inl (omega arith)) (λ g. inr (omega arith)) (c .before .before .pre .2))
+copy-words-requires c κs = (omega arith, omega arith, omega arith, ⊎-elim (λ g. inl (omega arith)) (λ g. inr (omega arith)) (c .before .before .pre .2))
 
 returns : tie.Need-returns
 returns c =
@@ -53,6 +53,7 @@ pub copy-item-spec : {M : Type 1} → statement M
 copy-item-spec =
     tie.close
     (tie.spec
+    (λ c. search needs)
     (λ c. search needs)
     (λ c. search needs)
     (λ c. search needs)

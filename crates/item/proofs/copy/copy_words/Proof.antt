@@ -18,12 +18,12 @@ use Rattle.item.proofs.copy.copy_words.Statement.{statement}
 use Rattle.item.proofs.copy.copy_words.Tie as tie
 
 abbrev Inv-loop : tie.InvT-loop
-Inv-loop image₀ from to n allowed left₀ k₀ image left k =
+Inv-loop image₀ from to end n allowed left₀ k₀ image left k =
     (k ≤ n) × (length image ≡ length image₀) × (part image from (n * 4) ≡ part image₀ from (n * 4))
     × Goes (words to (part image₀ from (n * 4)) 0 n) allowed image₀ (words to (part image₀ from (n * 4)) k (n - k)) left image
 
 abbrev μ-loop : tie.MeasureT-loop
-μ-loop image₀ from to n allowed left₀ k₀ image left k = n - k
+μ-loop image₀ from to end n allowed left₀ k₀ image left k = n - k
 
 loop-holds : tie.Need-loop-holds Inv-loop μ-loop
 loop-holds c = (omega arith, refl, refl, rw sub-zero (goes-start _ _ _))
@@ -34,7 +34,7 @@ returns c =
     let l = p .before .before .before .before .before .before .before in
     let a = l .before .before .args in
     let v = l .loop in
-    let made = did-lent (a .to) (length (v .image) - a .to) (v .image) (every-one _ _ (omega arith)) (p .program-word .ensures) in
+    let made = did-lent (a .to) (a .end - a .to) (v .image) (every-one _ _ (omega arith)) (p .program-word .ensures) in
     goes-stop _ (v .inv .3) (copy-more (a .to) (a .from) (a .n) (v .k) (omega arith) (v .image) (a .image .now) (v .inv .2)) made (c .enum-told .given .1)
 
 loop-again : tie.Need-loop-again Inv-loop μ-loop
@@ -43,10 +43,10 @@ loop-again c =
     let l = p .before .before .before .before .before .before .before in
     let a = l .before .before .args in
     let v = l .loop in
-    let made = did-lent (a .to) (length (v .image) - a .to) (v .image) (every-one _ _ (omega arith)) (p .program-word .ensures) in (
+    let made = did-lent (a .to) (a .end - a .to) (v .image) (every-one _ _ (omega arith)) (p .program-word .ensures) in (
       omega arith,
       search needs,
-      did-kept (a .to) (a .to + a .n * 4) (a .from) (a .n * 4) (every-one _ _ (omega arith, omega arith)) (l .before .before .pre .2) made ∙ v .inv .2,
+      did-kept (a .to) (a .to + a .n * 4) (a .from) (a .n * 4) (every-one _ _ (omega arith, omega arith)) (l .before .before .pre .3) made ∙ v .inv .2,
       goes-on (v .inv .3) (copy-more (a .to) (a .from) (a .n) (v .k) (omega arith) (v .image) (a .image .now) (v .inv .2)) made (c .before .r .given .1),
     )
 
