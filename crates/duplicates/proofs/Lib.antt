@@ -12,3 +12,4 @@ pub mod Aged
 pub mod Back
 pub mod OneGroup
 pub mod Rest
+pub mod Lengths

@@ -6,3 +6,4 @@ pub mod Out
 pub mod Ascending
 pub mod Sorting
 pub mod Range
+pub mod Lengths
