@@ -1,2 +1,3 @@
 pub mod Tagged
 pub mod Made
+pub mod Ended

@@ -6,3 +6,4 @@ pub mod Near
 pub mod Ordered
 pub mod Passes
 pub mod Fronts
+pub mod Lengths

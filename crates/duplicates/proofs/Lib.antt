@@ -9,3 +9,4 @@ pub mod Aged
 pub mod Back
 pub mod OneGroup
 pub mod Rest
+pub mod Lengths

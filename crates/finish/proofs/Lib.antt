@@ -1,3 +1,4 @@
 pub mod Alike
 pub mod Makes
 pub mod Leaves
+pub mod Lengths

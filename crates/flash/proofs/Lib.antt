@@ -10,3 +10,4 @@ pub mod Lent
 pub mod Words
 pub mod Lower
 pub mod Sectors
+pub mod Small

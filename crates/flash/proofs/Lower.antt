@@ -17,7 +17,7 @@ use Rattle.flash.proofs.Bytes.{put-other, put-same-at, word-byte, nth-o
 use Rattle.flash.proofs.Every.{Every}
 use Rattle.flash.proofs.Lent.{AllFit}
 
-put-le : (l : List ℕ) (i b j : ℕ) → getD (put l i b) j 0 ≤ getD l j 0
+pub put-le : (l : List ℕ) (i b j : ℕ) → getD (put l i b) j 0 ≤ getD l j 0
 put-le l i b j = go (eqb j i) refl
   where
     past : length l ≤ i → getD (put l i b) i 0 ≤ getD l i 0

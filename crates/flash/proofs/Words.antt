@@ -1,6 +1,6 @@
 -- The words of a list of bytes, one by one: a turn of the loop that programs them, where they stand, and what they leave on blank bytes.
 -- Assumes nothing.
-use mathlib.Core.Path.{_≡_, refl, _∙_}
+use mathlib.Core.Path.{_≡_, refl, ap, _∙_}
 use mathlib.Core.Logic.{inl, inr, ⊎-elim}
 use mathlib.Core.List.{List, [], _∷_}
 use Prim.Native.Nat.{ℕ, zero, suc, _+_, _-_, _*_, _≤_, _<_}
@@ -16,6 +16,11 @@ use Rattle.flash.proofs.Frame.{AllIn, length-apply, apply-other, run-ot
 use Rattle.flash.proofs.Lent.{AllFit, shift}
 
 module _ (at : ℕ) (e : List ℕ) where
+  pub length-words : (k n : ℕ) → length (words at e k n) ≡ n
+  unfolding words
+  length-words k zero = refl
+  length-words k (suc n) = ap suc (length-words (k + 1) n)
+
   pub words-more : (k n : ℕ) → k < n → words at e k (n - k) ≡ word at e k ∷ words at e (k + 1) (n - (k + 1))
   unfolding words
   words-more k n h =

@@ -7,3 +7,4 @@ pub mod Erasing
 pub mod Lying
 pub mod Keys
 pub mod Codes
+pub mod Lengths

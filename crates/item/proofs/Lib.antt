@@ -7,3 +7,4 @@ pub mod States
 pub mod Spans
 pub mod Local
 pub mod Safe
+pub mod Lengths

@@ -108,7 +108,7 @@ down-cut base j n d e w (suc k) (suc c) l h g from to a v b =
     down-cut base j n d e w k c (apply (stateWord base j n d (w + suc k)) l) (rw (length-apply (stateWord base j n d (w + suc k)) l) h) g from to (omega arith) v (omega arith)
     ∙ apart base j n d e g from to (w + suc k) (omega arith) (λ i. omega arith) l h
 
-length-down : (base j n d w k : ℕ) → length (statesDown base j n d w k) ≡ k
+pub length-down : (base j n d w k : ℕ) → length (statesDown base j n d w k) ≡ k
 unfolding statesDown
 length-down base j n d w zero = refl
 length-down base j n d w (suc k) = ap suc (length-down base j n d w k)

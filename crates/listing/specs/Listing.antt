@@ -12,8 +12,7 @@ use Rattle.page.specs.declared.«record».PageRecord.{PageRecord}
 use Rattle.page.specs.State.{isFree}
 use Rattle.table.specs.Table.{sectorsOf}
 use Rattle.answer.specs.declared.Answer.{Answer}
-use Rattle.answer.specs.declared.Answer.the-variants.{Done, NotSectors, FewRecords, ActiveStands, AllWritten, NoFreeSector, SequencesSpent, Stopped, NotReclaimable}
-use Rattle.answer.specs.Answer.{numberOf, stepsOf}
+use Rattle.answer.specs.Answer.{numberOf, stepsOf, refusal}
 use Rattle.records.specs.Records.{recordsTo}
 use Rattle.recover.specs.Promise.{recoverAnswer, calling}
 use Rattle.listing.specs.Text.{word, space, newline, decimal, field}
@@ -52,15 +51,7 @@ head sectors a =
 
 -- "then lists the records": of the image m that recovery left; "a refused image gets the first line only"
 unfoldable pub linesFor : Answer → List ℕ → List ℕ
-linesFor (Done k) m = lines 0 (recordsTo m (sectorsOf m))
-linesFor NotSectors m = []
-linesFor FewRecords m = []
-linesFor ActiveStands m = []
-linesFor AllWritten m = []
-linesFor NoFreeSector m = []
-linesFor SequencesSpent m = []
-linesFor (Stopped x k) m = []
-linesFor NotReclaimable m = []
+linesFor a m = cond (refusal a) [] (lines 0 (recordsTo m (sectorsOf m)))
 
 -- "an allowance that no list reaches"; the records of 16 sectors, the most that an image has
 abbrev pub allowance : ℕ
@@ -79,6 +70,10 @@ answered l = recoverAnswer l lent allowance
 -- "`sectors` is the length over 4,096 rounded down"
 unfoldable pub listing : List ℕ → ℕ → List ℕ
 listing l bytes = head (bytes / 4096) (answered l) ++ linesFor (answered l) (imageAfter l)
+
+-- no listing is longer, of bytes and of a length that 64 bits hold: lent as much, the whole of it is put. Both programs lend 2,048
+abbrev pub room : ℕ
+room = 1_123
 
 -- of the image l, which became m, the listing went into the bytes xs, which became ys: the first r of them, and what has no room is left out
 pub record Listed (l : List ℕ) (bytes : ℕ) (m xs ys : List ℕ) (r : ℕ) : Type 0 where

@@ -15,3 +15,4 @@ pub mod Climbing
 pub mod Running
 pub mod Mapping
 pub mod Below
+pub mod Lengths

@@ -6,6 +6,7 @@ use Prim.Native.Nat.{ℕ, zero, suc, _+_, _<_, _≤_}
 use native.Mathlib.Omega.{arith}
 use lib.Dec.{leb}
 use borrow.Author.Tests.{leb-true}
+use Rattle.word.proofs.Bytes.{part-byte}
 use Rattle.entry.specs.Fields.{entryAt, spanOf}
 use Rattle.page.proofs.Tests.{both-first, both-second}
 use Rattle.page.specs.declared.walk.ItemHeader.{ItemHeader}
@@ -20,6 +21,12 @@ module _ (t : List ℕ) where
       let n = spanOf (entryAt t i) in
       let f : fits i n ≡ true = both-second (readable t i) (fits i n) e in
       (leb-true 1 n (both-first (leb 1 n) (leb (i + n) 126) f), leb-true (i + n) 126 (both-second (leb 1 n) (leb (i + n) 126) f))
+
+  -- its bytes begin with that span
+  pub raw-span : (i : ℕ) → isItem t i ≡ true → spanOf (laidAt t i .raw) ≡ spanOf (entryAt t i)
+  raw-span i here =
+      let f = item-span i here in
+      part-byte t (64 + i * 32) (spanOf (entryAt t i) * 32) 2 (omega arith) ∙ sym (part-byte t (64 + i * 32) 32 2 (omega arith))
 
   -- nothing begins past entry 125
   pub past-end : (i : ℕ) → 126 ≤ i → isItem t i ≡ false

@@ -16,8 +16,10 @@ use Rattle.answer.proofs.Made.{length-untag, done-fits}
 use Rattle.table.specs.Table.{sectorsOf, wholeSectors, pages}
 use Rattle.recover.specs.Recover.{tooHigh, recovering, accepted, recovery}
 use Rattle.recover.specs.Promise.{calling, wholeAnswer, recoverAnswer}
-use Rattle.power.specs.Demand3.{Safe, failing, recoveries, recovered, held}
-use Rattle.power.specs.Calls.{Called, Restarts, CallsSafe}
+use Rattle.recover.proofs.Ends.{recover-ended}
+use Rattle.reclaim.specs.Promise.{ReclaimPromise}
+use Rattle.power.specs.Demand3.{Store, Safe, failing, recoveries, recovered, held}
+use Rattle.power.specs.Calls.{Called, Restarts, Stands, CallsSafe, CallsEnd}
 use Rattle.power.proofs.Demand3.{demand3}
 
 module _ (l m : List ℕ) (a : Answer) (h : Called l m a) where
@@ -33,8 +35,8 @@ module _ (l m : List ℕ) (a : Answer) (h : Called l m a) where
       let t = not-true (tooHigh (pages l)) (both-second (wholeSectors l) (not (tooHigh (pages l))) e) in
       rw (w, le-leb (sectorsOf l) (length (h .lent)) (h .enough), t) at (h .promised .answer)
 
-  not-refused : accepted l ≡ true → refusal a ≡ false
-  not-refused e = ap refusal (answered e) ∙ made-no-refusal (h .allowance) (recovering l)
+  accepts-call : accepted l ≡ true → refusal a ≡ false
+  accepts-call e = ap refusal (answered e) ∙ made-no-refusal (h .allowance) (recovering l)
 
   -- a call that ended made all the steps
   ended : accepted l ≡ true → numberOf a ≡ 0 → m ≡ recovered l
@@ -51,16 +53,26 @@ unfolding Restarts recoveries
 restarted zero l m e = ([], e)
 restarted (suc k) l m (x, a, c, r) = let s = restarted k x m r in (c .allowance ∷ s .0, rw (← steps l x a c) (s .1))
 
+module _ (l : List ℕ) (S : Store l) (c : ℕ) (x : List ℕ) (r : Answer) (P : ReclaimPromise l c x r) (m : List ℕ) (n : ℕ) (R : Restarts n x m) (w : List ℕ) (a : Answer) (C : Called m w a) where
+  safe : Safe l m
+  unfolding failing
+  safe =
+      let k = restarted n x m R in
+      let at : m ≡ failing c (k .0) l = k .1 ∙ ap (recoveries (k .0)) (P .image) in
+      rw at (demand3 l S c (k .0))
+
+  stands : numberOf a ≡ 0 → Stands l w
+  stands z =
+      let end : w ≡ recovered m = ended m w a C (safe .accepts) z in
+      record { items = λ y. ap (held y) end ∙ safe .items y; once = λ y. rw end (safe .once y); free = rw end (safe .free) }
+
+  not-refused : refusal a ≡ false
+  not-refused = accepts-call m w a C (safe .accepts)
+
 pub calls-safe : CallsSafe
-unfolding failing
-calls-safe l S c x r P m n R w a C =
-    let k = restarted n x m R in
-    let at : m ≡ failing c (k .0) l = k .1 ∙ ap (recoveries (k .0)) (P .image) in
-    let safe : Safe l m = rw at (demand3 l S c (k .0)) in
-    let end : numberOf a ≡ 0 → w ≡ recovered m = ended m w a C (safe .accepts) in
-    record {
-      accepts = not-refused m w a C (safe .accepts);
-      items = λ z x. ap (held x) (end z) ∙ safe .items x;
-      once = λ z x. rw (end z) (safe .once x);
-      free = λ z. rw (end z) (safe .free);
-    }
+calls-safe l S c x r P m n R w a C = record { accepts = not-refused l S c x r P m n R w a C; stands = stands l S c x r P m n R w a C }
+
+pub calls-end : CallsEnd
+calls-end l S c x r P m n R w a C allowed =
+    let z = recover-ended (C .promised) allowed (not-refused l S c x r P m n R w a C) in
+    (z, stands l S c x r P m n R w a C z)

@@ -46,3 +46,5 @@ pub mod General
 pub mod Demand3
 pub mod Cuts
 pub mod Calls
+pub mod Reclaims
+pub mod Example

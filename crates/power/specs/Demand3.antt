@@ -43,9 +43,10 @@ pub record Premises (l : List ℕ) : Type 0 where
   pub part-in-0 : total (λ (r : List ℕ). one (isPart r && eqb (namespaceOf r) 0)) l ≡ 0
   -- "no Active or Freeing page"
   pub active-or-freeing : some-of (λ (p : Page). activePage p || freeingPage p) (pages l) ≡ false
-  -- "a free sector", "a page with fewer than 126 written entries", "page sequences distinct": the proof does not need these three
+  -- "a free sector", "a page with fewer than 126 written entries": by these reclaim is not refused (Calls.antt: `Reclaims`); what a cut leaves does not need them
   pub free-sector : 1 ≤ length (frees l)
   pub below-126 : some-of candidate (pages l) ≡ true
+  -- "page sequences distinct": no proof needs it
   pub distinct : (q : ℕ) → sumOf (λ (p : Page). one (eqb (sequence p) q)) (pages l) ≤ 1
   -- "and below 0xFFFFFFF0"
   pub below : every (λ (p : Page). ltb (sequence p) 0xFFFFFFF0) (pages l) ≡ true

@@ -18,7 +18,7 @@ use Rattle.duplicates.specs.Duplicates.{ranked}
 use Rattle.recover.specs.Recover.{accepted}
 use Rattle.reclaim.specs.Reclaim.{reclaiming}
 use Rattle.power.specs.Demand3.{Premises, total, held, recovered}
-use Rattle.power.specs.Cuts.{Tearing, Cut, Begun}
+use Rattle.power.specs.Cuts.{Cut, Begun}
 
 pub record Unsettled (l : List ℕ) : Type 0 where
   pub premises : Premises l
@@ -39,5 +39,5 @@ pub record Leaves (l m : List ℕ) : Type 0 where
   pub free : length (frees l) ≤ length (frees (recovered m))
 
 -- "Reclaim cut anywhere, then recovery cut any number of times"
-abbrev pub General : Tearing → Type 0
-General Torn = (l : List ℕ) → Unsettled l → (x m : List ℕ) → Cut Torn (reclaiming l) l x → (n : ℕ) → Begun Torn n x m → Leaves l m
+abbrev pub General : Type 0
+General = (l : List ℕ) → Unsettled l → (x m : List ℕ) → Cut (reclaiming l) l x → (n : ℕ) → Begun n x m → Leaves l m

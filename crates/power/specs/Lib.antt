@@ -2,3 +2,4 @@ pub mod Demand3
 pub mod Cuts
 pub mod General
 pub mod Calls
+pub mod Example

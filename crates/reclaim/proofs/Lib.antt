@@ -1,2 +1,3 @@
 pub mod Planned
 pub mod Promised
+pub mod Ends

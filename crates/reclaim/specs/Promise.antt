@@ -24,6 +24,10 @@ planAnswer n l (Move s t q) = answerOf n (tag Reclaim (planSteps l (Move s t q))
 unfoldable pub reclaimAnswer : List ℕ → ℕ → Answer
 reclaimAnswer l n = cond (wholeSectors l) (planAnswer n l (plan (pages l) (frees l))) NotSectors
 
+-- no image has a longer list of steps: a call that is allowed as many is never stopped
+abbrev pub mostSteps : ℕ
+mostSteps = 1_271
+
 pub record ReclaimPromise (l : List ℕ) (n : ℕ) (m : List ℕ) (r : Answer) : Type 0 where
   pub image : m ≡ run (take n (reclaiming l)) l
   pub answer : r ≡ reclaimAnswer l n

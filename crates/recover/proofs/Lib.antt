@@ -3,3 +3,4 @@ pub mod Listed
 pub mod Promised
 pub mod Enter
 pub mod Fixed
+pub mod Ends

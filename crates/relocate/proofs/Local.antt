@@ -6,13 +6,12 @@ use Prim.Native.Nat.{ℕ, zero, suc, _+_, _≤_}
 use native.Mathlib.Omega.{arith}
 use Rattle.entry.specs.Fields.{entryAt, spanOf}
 use Rattle.page.specs.Walk.{isItem, Laid, laidAt, onFrom, walk}
-use Rattle.page.proofs.Walking.{item-span}
+use Rattle.page.proofs.Walking.{item-span, raw-span}
 use Rattle.flash.proofs.Every.{every-none, every-append}
 use Rattle.flash.proofs.Frame.{AllIn}
 use Rattle.flash.proofs.Lent.{shift, Fit, AllFit, shift-append, shift-in}
 use Rattle.item.proofs.Local.{copying-shift, copying-fit}
 use Rattle.relocate.specs.Move.{copies}
-use Rattle.relocate.proofs.Turns.{raw-span}
 
 pub copies-shift : (a j : ℕ) (xs : List Laid) → copies a j xs ≡ shift a (copies 0 j xs)
 unfolding copies

@@ -5,19 +5,13 @@ use mathlib.Core.List.{List, [], _++_}
 use Prim.Native.Nat.{ℕ, _+_, _*_, _≤_}
 use native.Mathlib.Omega.{arith}
 use Rattle.word.specs.Number.{part}
-use Rattle.word.proofs.Bytes.{part-byte, part-part}
+use Rattle.word.proofs.Bytes.{part-part}
 use Rattle.entry.specs.Fields.{entryAt, spanOf}
 use Rattle.page.specs.Walk.{isItem, laidAt, walk}
-use Rattle.page.proofs.Walking.{item-span, walk-item, walk-skip, walk-past}
+use Rattle.page.proofs.Walking.{item-span, raw-span, walk-item, walk-skip, walk-past}
 use Rattle.flash.specs.Step.{sector}
 use Rattle.item.specs.Copy.{copying}
 use Rattle.relocate.specs.Move.{copies}
-
--- the bytes of an item begin with its span
-pub raw-span : (t : List ℕ) (i : ℕ) → isItem t i ≡ true → spanOf (laidAt t i .raw) ≡ spanOf (entryAt t i)
-raw-span t i here =
-    let f = item-span t i here in
-    part-byte t (64 + i * 32) (spanOf (entryAt t i) * 32) 2 (omega arith) ∙ sym (part-byte t (64 + i * 32) 32 2 (omega arith))
 
 -- the walk goes over the bytes t, of which the image l has the same in sector s
 module _ (s : ℕ) (l t : List ℕ) (same : sector s l ≡ t) (i n : ℕ) (here : isItem t i ≡ true) (span : n ≡ spanOf (entryAt t i)) where
