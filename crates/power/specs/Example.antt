@@ -1,4 +1,4 @@
--- Document 01's own example as a store of demand 3: "an image with sector 0 Blank and sector 1 Full, sequence 7, three readable one-entry items of namespace 1,
+-- Bridge: document 01's own example as a store of demand 3: "an image with sector 0 Blank and sector 1 Full, sequence 7, three readable one-entry items of namespace 1,
 -- type 0x01 and different keys, and two Erased entries". The premises can be met, and reclaim then has steps to cut. Assumes nothing.
 use mathlib.Core.Path.{_≡_}
 use mathlib.Core.List.{List, [], _∷_, _++_}
