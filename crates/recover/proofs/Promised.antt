@@ -1,11 +1,10 @@
--- From the refusals and from what the stages made to the promise; two outcomes that it allows are the same; a refusal changes nothing. Assumes nothing.
+-- From the refusals and from what the stages made to the promise, and from the rows to the records stored. Assumes nothing.
 use mathlib.Core.Path.{_≡_, refl, sym, ap, _∙_}
 use mathlib.Core.Bool.{Bool, true, false, cond, not, _&&_}
-use mathlib.Core.List.{List, []}
-use Prim.Native.Nat.{ℕ, _*_, _/_, _≤_, _<_}
-use native.Mathlib.Omega.{arith}
+use mathlib.Core.List.{List, [], _++_}
+use Prim.Native.Nat.{ℕ, zero, suc, _/_, _≤_, _<_}
 use lib.Dec.{leb}
-use lib.ListN.{length, take}
+use lib.ListN.{length, take, drop}
 use lib.Seq.{take-nil}
 use borrow.Author.Tests.{le-leb, lt-leb}
 use Rattle.flash.specs.Step.{Step, run}
@@ -14,15 +13,16 @@ use Rattle.answer.specs.declared.Stage.{Stage}
 use Rattle.answer.specs.declared.Went.{Went}
 use Rattle.answer.specs.declared.Went.the-variants.{Ended, Short}
 use Rattle.answer.specs.declared.Answer.{Answer}
-use Rattle.answer.specs.declared.Answer.the-variants.{Done, NotSectors, FewRecords, ActiveStands, AllWritten, NoFreeSector, SequencesSpent, Stopped, NotReclaimable}
+use Rattle.answer.specs.declared.Answer.the-variants.{NotSectors, FewRecords, SequencesSpent}
+use Rattle.answer.specs.Answer.{numberOf}
 use Rattle.answer.specs.Staged.{Staged, untag, answerOf}
 use Rattle.answer.specs.Went.{Made, went, toldOf}
 use Rattle.answer.proofs.Made.{told-is}
 use Rattle.page.specs.declared.«record».PageRecord.{PageRecord}
 use Rattle.table.specs.Table.{sectorsOf, wholeSectors, pages}
-use Rattle.table.proofs.Whole.{whole-is}
 use Rattle.records.specs.declared.Rows.{Rows}
-use Rattle.records.specs.Records.{filled, recordsTo, noRows, RowsOf}
+use Rattle.records.specs.Records.{filled, noRows, rowsOf}
+use Rattle.records.proofs.Reading.{rows-read}
 use Rattle.recover.specs.declared.Recovered.{Recovered}
 use Rattle.recover.specs.Recover.{tooHigh, recovering, accepted, recovery}
 use Rattle.recover.specs.Promise.{wholeAnswer, recoverAnswer, calling, recordsAfter, rowsFor, Recovers, RecoverPromise}
@@ -64,14 +64,12 @@ module _ (l : List ℕ) (lent : ℕ) where
   steps-called whole enough low = rw (le-leb (sectorsOf l) lent enough, whole, low)
 
 module _ (l : List ℕ) (lent n : ℕ) where
-  refused : {r : Recovered} (a : Answer) → rowsFor a l noRows → calling l lent ≡ [] → a ≡ recoverAnswer l lent n → r .answer ≡ a → r .rows ≡ noRows → Recovers l lent n l r
+  refused : {r : Recovered} (a : Answer) → noRows ≡ rowsFor (numberOf a) l → calling l lent ≡ [] → a ≡ recoverAnswer l lent n → r .answer ≡ a → r .rows ≡ noRows → Recovers l lent n l r
   refused {r} a f none answer e s =
       record {
         image = idle n l (calling l lent) none;
         answer = e ∙ answer;
-        rows = rw (e, s) f;
-        few = rw s (omega arith);
-        fits = rw s (omega arith);
+        rows = rw e (s ∙ f);
       }
 
   pub refused-sectors : {r : Recovered} → wholeSectors l ≡ false → r .answer ≡ NotSectors → r .rows ≡ noRows → Recovers l lent n l r
@@ -105,39 +103,27 @@ module _ (l : List ℕ) (lent n : ℕ) where
           image = image-is;
           answer = a ∙ answer-is;
           rows = rw (a, e) s;
-          few = rw s (omega arith);
-          fits = rw s (omega arith);
         }
 
-    pub ended-rows : {r : Recovered} {k : ℕ} → w ≡ Ended k → r .answer ≡ toldOf w n → RowsOf m (sectorsOf l) (r .rows) → Recovers l lent n m r
+    pub ended-rows : {r : Recovered} {k : ℕ} → w ≡ Ended k → r .answer ≡ toldOf w n → r .rows ≡ rowsOf m (sectorsOf l) → Recovers l lent n m r
     ended-rows {r} {k} e a s =
-        let c = s .count in
         record {
           image = image-is;
           answer = a ∙ answer-is;
           rows = rw (a, e, sectors-are) s;
-          few = rw c (whole-is l whole .1);
-          fits = rw c enough;
         }
 
 -- ---- the records stored
 
-stored-rows : (a : Answer) (m : List ℕ) (rows : Rows) (ys : List PageRecord) → rowsFor a m rows → filled (rows .count) (rows .rows) ys ≡ recordsAfter a m ys
+stored-rows : (k : ℕ) (m : List ℕ) (ys : List PageRecord) → filled (rowsFor k m .count) (rowsFor k m .rows) ys ≡ recordsAfter k m ys
 unfolding recordsAfter
-stored-rows (Done k) m rows ys h = let c = h .count in rw (c, h .rows)
-stored-rows NotSectors m rows ys h = rw h
-stored-rows FewRecords m rows ys h = rw h
-stored-rows ActiveStands m rows ys h = rw h
-stored-rows AllWritten m rows ys h = rw h
-stored-rows NoFreeSector m rows ys h = rw h
-stored-rows SequencesSpent m rows ys h = rw h
-stored-rows (Stopped x k) m rows ys h = rw h
-stored-rows NotReclaimable m rows ys h = rw h
+stored-rows zero m ys = ap (λ (rs : List PageRecord). rs ++ drop (sectorsOf m) ys) (rows-read m (sectorsOf m))
+stored-rows (suc k) m ys = refl
 
 pub stored : {l m : List ℕ} {ys zs : List PageRecord} {n : ℕ} {r : Recovered} → Recovers l (length ys) n m r → zs ≡ filled (r .rows .count) (r .rows .rows) ys → RecoverPromise l ys n m zs (r .answer)
 stored {l} {m} {ys} {zs} {n} {r} h e =
     record {
       image = h .image;
       answer = h .answer;
-      records = e ∙ stored-rows (r .answer) m (r .rows) ys (h .rows);
+      records = e ∙ ap (λ (s : Rows). filled (s .count) (s .rows) ys) (h .rows) ∙ stored-rows (numberOf (r .answer)) m ys;
     }
