@@ -1,2 +1,4 @@
 pub mod Tagged
 pub mod Made
+pub mod Values
+pub mod Numbers

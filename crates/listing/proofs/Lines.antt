@@ -17,6 +17,7 @@ use Rattle.records.specs.Records.{noRows}
 use Rattle.records.proofs.Reading.{rows-read, rows-there}
 use Rattle.recover.specs.declared.Recovered.{Recovered}
 use Rattle.recover.specs.Promise.{rowsFor, Recovers}
+use Rattle.recover.proofs.Fixed.{recovers-answer}
 use Rattle.listing.specs.Text.{space, newline, decimal}
 use Rattle.listing.specs.Listing.{stateName, pageText, line, lines, head, linesFor, lent, allowance, answered, listing}
 
@@ -77,4 +78,4 @@ module _ (l m : List ℕ) (r : Recovered) (p : Recovers l lent allowance m r) wh
   unfolding listing
   listing-is bytes =
       ap (λ (s : List ℕ). head (bytes / 4096) (r .answer) ++ s) (handed-out m (r .rows) (r .answer) (p .rows) .1) ∙
-      ap (λ (a : Answer). head (bytes / 4096) a ++ linesFor a m) (p .answer) ∙ ap (λ (i : List ℕ). head (bytes / 4096) (answered l) ++ linesFor (answered l) i) (p .image)
+      ap (λ (a : Answer). head (bytes / 4096) a ++ linesFor a m) (recovers-answer p) ∙ ap (λ (i : List ℕ). head (bytes / 4096) (answered l) ++ linesFor (answered l) i) (p .image)

@@ -1,2 +1,5 @@
 pub mod Planned
+pub mod Choice
+pub mod Answered
 pub mod Promised
+pub mod Numbers

@@ -1,9 +1,8 @@
 -- From the refusals and from what the stages made to the promise, and from the rows to the records stored. Assumes nothing.
 use mathlib.Core.Path.{_≡_, refl, sym, ap, _∙_}
-use mathlib.Core.Bool.{Bool, true, false, cond, not, _&&_}
+use mathlib.Core.Bool.{true, false}
 use mathlib.Core.List.{List, [], _++_}
 use Prim.Native.Nat.{ℕ, zero, suc, _/_, _≤_, _<_}
-use lib.Dec.{leb}
 use lib.ListN.{length, take, drop}
 use lib.Seq.{take-nil}
 use borrow.Author.Tests.{le-leb, lt-leb}
@@ -15,8 +14,9 @@ use Rattle.answer.specs.declared.Went.the-variants.{Ended, Short}
 use Rattle.answer.specs.declared.Answer.{Answer}
 use Rattle.answer.specs.declared.Answer.the-variants.{NotSectors, FewRecords, SequencesSpent}
 use Rattle.answer.specs.Answer.{numberOf}
-use Rattle.answer.specs.Staged.{Staged, untag, answerOf}
-use Rattle.answer.specs.Went.{Made, went, toldOf}
+use Rattle.answer.specs.Staged.{Staged, untag}
+use Rattle.answer.specs.Told.{Told}
+use Rattle.answer.specs.Went.{Made, toldOf}
 use Rattle.answer.proofs.Made.{told-is}
 use Rattle.page.specs.declared.«record».PageRecord.{PageRecord}
 use Rattle.table.specs.Table.{sectorsOf, wholeSectors, pages}
@@ -24,8 +24,9 @@ use Rattle.records.specs.declared.Rows.{Rows}
 use Rattle.records.specs.Records.{filled, noRows, rowsOf}
 use Rattle.records.proofs.Reading.{rows-read}
 use Rattle.recover.specs.declared.Recovered.{Recovered}
-use Rattle.recover.specs.Recover.{tooHigh, recovering, accepted, recovery}
-use Rattle.recover.specs.Promise.{wholeAnswer, recoverAnswer, calling, recordsAfter, rowsFor, Recovers, RecoverPromise}
+use Rattle.recover.specs.Recover.{tooHigh, recovering}
+use Rattle.recover.specs.Promise.{called, calling, recoverTable, wholeAnswer, recoverAnswer, recordsAfter, rowsFor, Recovers, RecoverPromise}
+use Rattle.recover.proofs.Answered.{none-whole, none-lent, none-high, steps-called, recover-told}
 
 -- no step, no change
 pub idle : (n : ℕ) (l : List ℕ) (ss : List Step) → ss ≡ [] → l ≡ run (take n ss) l
@@ -37,38 +38,19 @@ made-size {ts} {n} {l} d = ap length (d .image) ∙ length-run (take n (untag ts
 
 -- ---- the refusals
 
-module _ (l : List ℕ) (lent : ℕ) where
-  pub none-whole : wholeSectors l ≡ false → calling l lent ≡ []
-  unfolding calling recovery accepted untag
-  none-whole e = go (leb (sectorsOf l) lent)
-    where
-      go : (b : Bool) → cond b (untag (cond (wholeSectors l && not (tooHigh (pages l))) (recovering l) [])) [] ≡ []
-      go true = rw e
-      go false = refl
-
-  pub none-lent : lent < sectorsOf l → calling l lent ≡ []
-  unfolding calling
-  none-lent h = rw (lt-leb (sectorsOf l) lent h)
-
-  pub none-high : tooHigh (pages l) ≡ true → calling l lent ≡ []
-  unfolding calling recovery accepted untag
-  none-high e = go (leb (sectorsOf l) lent) (wholeSectors l)
-    where
-      go : (b w : Bool) → cond b (untag (cond (w && not (tooHigh (pages l))) (recovering l) [])) [] ≡ []
-      go true true = rw e
-      go true false = refl
-      go false w = refl
-
-  pub steps-called : wholeSectors l ≡ true → sectorsOf l ≤ lent → tooHigh (pages l) ≡ false → calling l lent ≡ untag (recovering l)
-  unfolding calling recovery accepted
-  steps-called whole enough low = rw (le-leb (sectorsOf l) lent enough, whole, low)
+pub none-calling : (l : List ℕ) (lent : ℕ) → called l lent ≡ [] → calling l lent ≡ []
+unfolding calling untag
+none-calling l lent e = rw e
 
 module _ (l : List ℕ) (lent n : ℕ) where
-  refused : {r : Recovered} (a : Answer) → noRows ≡ rowsFor (numberOf a) l → calling l lent ≡ [] → a ≡ recoverAnswer l lent n → r .answer ≡ a → r .rows ≡ noRows → Recovers l lent n l r
+  answer-as : {a : Answer} → a ≡ recoverAnswer l lent n → Told (recoverTable l lent n) n (called l lent) a
+  answer-as e = rw e (recover-told l lent n)
+
+  refused : {r : Recovered} (a : Answer) → noRows ≡ rowsFor (numberOf a) l → called l lent ≡ [] → a ≡ recoverAnswer l lent n → r .answer ≡ a → r .rows ≡ noRows → Recovers l lent n l r
   refused {r} a f none answer e s =
       record {
-        image = idle n l (calling l lent) none;
-        answer = e ∙ answer;
+        answer = answer-as (e ∙ answer);
+        image = idle n l (calling l lent) (none-calling l lent none);
         rows = rw e (s ∙ f);
       }
 
@@ -92,6 +74,7 @@ module _ (l : List ℕ) (lent n : ℕ) where
     answer-is = rw (whole, le-leb (sectorsOf l) lent enough, low) (ap (λ (v : Went). toldOf v n) (made .answer) ∙ told-is n (recovering l))
 
     image-is : m ≡ run (take n (calling l lent)) l
+    unfolding calling
     image-is = rw (steps-called l lent whole enough low) (made .image)
 
     sectors-are : sectorsOf m ≡ sectorsOf l
@@ -100,16 +83,16 @@ module _ (l : List ℕ) (lent n : ℕ) where
     pub stopped-short : {r : Recovered} {x : Stage} → w ≡ Short x → r .answer ≡ toldOf w n → r .rows ≡ noRows → Recovers l lent n m r
     stopped-short {r} {x} e a s =
         record {
+          answer = answer-as (a ∙ answer-is);
           image = image-is;
-          answer = a ∙ answer-is;
           rows = rw (a, e) s;
         }
 
     pub ended-rows : {r : Recovered} {k : ℕ} → w ≡ Ended k → r .answer ≡ toldOf w n → r .rows ≡ rowsOf m (sectorsOf l) → Recovers l lent n m r
     ended-rows {r} {k} e a s =
         record {
+          answer = answer-as (a ∙ answer-is);
           image = image-is;
-          answer = a ∙ answer-is;
           rows = rw (a, e, sectors-are) s;
         }
 
@@ -123,7 +106,7 @@ stored-rows (suc k) m ys = refl
 pub stored : {l m : List ℕ} {ys zs : List PageRecord} {n : ℕ} {r : Recovered} → Recovers l (length ys) n m r → zs ≡ filled (r .rows .count) (r .rows .rows) ys → RecoverPromise l ys n m zs (r .answer)
 stored {l} {m} {ys} {zs} {n} {r} h e =
     record {
-      image = h .image;
       answer = h .answer;
+      image = h .image;
       records = e ∙ ap (λ (s : Rows). filled (s .count) (s .rows) ys) (h .rows) ∙ stored-rows (numberOf (r .answer)) m ys;
     }
