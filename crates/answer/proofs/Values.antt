@@ -10,17 +10,18 @@ use lib.Dec.{eqb, ltb}
 use lib.ListN.{length, take}
 use lib.Seq.{take-nil}
 use borrow.Author.Tests.{lt-ltb, le-ltb}
+use Rattle.flash.specs.Step.{Step, run}
 use Rattle.flash.proofs.Order.{le-or-gt}
 use Rattle.answer.specs.declared.Stage.{Stage}
 use Rattle.answer.specs.declared.Went.{Went}
 use Rattle.answer.specs.declared.Answer.{Answer}
 use Rattle.answer.specs.declared.Answer.the-variants.{Done, NotSectors, FewRecords, ActiveStands, AllWritten, NoFreeSector, SequencesSpent, Stopped, NotReclaimable}
 use Rattle.answer.specs.Answer.{numberOf, stepsOf, stageOf, refusal}
-use Rattle.answer.specs.Staged.{Staged, left, stoppedAt, answerOf}
+use Rattle.answer.specs.Staged.{Staged, untag, left, stoppedAt, answerOf}
 use Rattle.answer.specs.Went.{went, toldOf}
-use Rattle.answer.specs.Told.{Line, numberIn, firstStage, Told}
+use Rattle.answer.specs.Told.{Line, numberIn, stepsMade, firstStage, Told}
 use Rattle.answer.proofs.Tagged.{left-none}
-use Rattle.answer.proofs.Made.{went-short, told-is}
+use Rattle.answer.proofs.Made.{untag-take, went-short, told-is}
 
 -- ---- by number, steps and stage
 
@@ -49,7 +50,21 @@ told-same {r = r} {r′} t u =
     let s : stageOf r ≡ stageOf r′ = t .stage ∙ sym (u .stage) in
     by-values r ∙ rw (k, n, s) (sym (by-values r′))
 
+-- the steps told are those made of the plain list
+pub steps-listed : {xs : List Line} {n : ℕ} {ts : List Staged} {r : Answer} → Told xs n ts r → stepsOf r ≡ length (take n (untag ts))
+unfolding stepsMade
+steps-listed {n = n} {ts} t = t .steps ∙ untag-take n ts
+
 -- ---- a refusal
+
+-- no step, no change
+pub idle : (n : ℕ) (l : List ℕ) (ss : List Step) → ss ≡ [] → l ≡ run (take n ss) l
+unfolding run
+idle n l ss e = rw (e, take-nil {A = Step} n)
+
+none-made : (n : ℕ) → 0 ≡ stepsMade n []
+unfolding stepsMade
+none-made n = rw (take-nil {A = Staged} n)
 
 -- "nothing changed, 0 steps", and no stage
 refusal-values : (a : Answer) → refusal a ≡ true → (stepsOf a ≡ 0) × (stageOf a ≡ none)
@@ -74,7 +89,7 @@ pub refusal-told : {xs : List Line} (n : ℕ) {ts : List Staged} (a : Answer) �
 refusal-told n a f e z =
     record {
       number = e;
-      steps = rw (z, take-nil {A = Staged} n) (refusal-values a f .0);
+      steps = rw z (refusal-values a f .0 ∙ none-made n);
       stage = rw (z, left-none n [] (omega arith)) (refusal-values a f .1);
     }
 
@@ -103,8 +118,8 @@ module _ (n : ℕ) (ts : List Staged) where
       go [] = refl
       go (u ∷ us) = refl
 
-  steps-told : stepsOf (answerOf n ts) ≡ length (take n ts)
-  unfolding answerOf
+  steps-told : stepsOf (answerOf n ts) ≡ stepsMade n ts
+  unfolding answerOf stepsMade
   steps-told = go (left n ts)
     where
       go : (us : List Staged) → stepsOf (stoppedAt (length (take n ts)) us) ≡ length (take n ts)

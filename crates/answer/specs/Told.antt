@@ -12,7 +12,7 @@ use Rattle.answer.specs.declared.Answer.{Answer}
 use Rattle.answer.specs.Answer.{numberOf, stepsOf, stageOf}
 use Rattle.answer.specs.Staged.{Staged, left}
 
--- a number, and whether its condition holds
+-- a line of the table: a number, and whether its condition holds
 pub record Line : Type 0 where
   pub number : ℕ
   pub holds : Bool
@@ -35,10 +35,14 @@ unfoldable pub conditionOf : ℕ → List Line → Bool
 conditionOf k [] = false
 conditionOf k (x ∷ xs) = cond (eqb (x .number) k) (x .holds) (conditionOf k xs)
 
--- no condition of these holds
-abbrev pub None : List Line → Type 0
-None [] = Unit {0}
-None (x ∷ xs) = (x .holds ≡ false) × None xs
+-- no condition of these lines holds
+abbrev pub NoneHolds : List Line → Type 0
+NoneHolds [] = Unit {0}
+NoneHolds (x ∷ xs) = (x .holds ≡ false) × NoneHolds xs
+
+-- "reports how many it made": the length of the listed steps made
+unfoldable pub stepsMade : ℕ → List Staged → ℕ
+stepsMade n ts = length (take n ts)
 
 -- "It is the stage of the first step not made": ts are the steps not made
 abbrev pub firstStage : List Staged → Option Stage
@@ -48,7 +52,6 @@ firstStage (t ∷ ts) = some (t .stage)
 -- the answer r of a call that has the table xs and the list of steps ts, of which n are allowed
 pub record Told (xs : List Line) (n : ℕ) (ts : List Staged) (r : Answer) : Type 0 where
   pub number : numberOf r ≡ numberIn xs
-  -- "reports how many it made": as many as are made of the list
-  pub steps : stepsOf r ≡ length (take n ts)
+  pub steps : stepsOf r ≡ stepsMade n ts
   -- "A stopped call says in which stage, and for the finish stage which source sector."
   pub stage : stageOf r ≡ firstStage (left n ts)

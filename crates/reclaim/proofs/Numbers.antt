@@ -11,7 +11,7 @@ use borrow.Author.Tests.{ltb-true, ltb-false, lt-ltb, le-ltb}
 use Rattle.page.proofs.Tests.{not-true, both-first, both-second, both-is}
 use Rattle.answer.specs.declared.Answer.{Answer}
 use Rattle.answer.specs.Answer.{numberOf}
-use Rattle.answer.specs.Told.{before, conditionOf, None, Told}
+use Rattle.answer.specs.Told.{before, conditionOf, NoneHolds, Told}
 use Rattle.answer.proofs.Numbers.{absent, once, positive, given, given-last, not-given}
 use Rattle.lists.specs.Lists.{some-of, greatest}
 use Rattle.table.specs.Table.{wholeSectors, pages, frees, sequence, activePage}
@@ -21,7 +21,7 @@ use Rattle.reclaim.proofs.Choice.{none-free}
 
 -- of "1, 3, 4, 8, 5, 6; then steps" no condition before that of the number k holds
 abbrev pub Passed : List ℕ → ℕ → ℕ → Type 0
-Passed l n k = None (before k (reclaimTable l n))
+Passed l n k = NoneHolds (before k (reclaimTable l n))
 
 module _ {l : List ℕ} {n : ℕ} {m : List ℕ} {r : Answer} (p : ReclaimPromise l n m r) where
   -- "image not 2 to 16 whole sectors"

@@ -1,11 +1,11 @@
--- From the plan and the steps made to the promise; two outcomes that it allows are the same; a refusal changes nothing. Assumes nothing.
+-- From the plan and the steps made to the promise; two outcomes that it allows are the same; the steps told are those made; a refusal changes nothing.
+-- Assumes nothing.
 use mathlib.Core.Path.{_≡_, refl, sym, ap, _∙_, subst}
 use mathlib.Core.Bool.{Bool, true, false, cond}
 use mathlib.Core.List.{List, []}
 use Prim.Native.Nat.{ℕ}
 use lib.Dec.{ltb}
 use lib.ListN.{length, take}
-use lib.Seq.{take-nil}
 use Rattle.flash.specs.declared.Ran.{Ran}
 use Rattle.flash.specs.Step.{Step, run}
 use Rattle.flash.specs.Did.{Did}
@@ -18,8 +18,8 @@ use Rattle.answer.specs.Went.{inStage, toldOf}
 use Rattle.answer.specs.Staged.{Staged, tag, answerOf}
 use Rattle.answer.specs.Told.{numberIn, Told}
 use Rattle.answer.proofs.Tagged.{length-tag}
-use Rattle.answer.proofs.Made.{made-tag, told-is}
-use Rattle.answer.proofs.Values.{told-same, no-steps, refusal-told, no-refusal, answer-told}
+use Rattle.answer.proofs.Made.{untag-only, made-tag, told-is}
+use Rattle.answer.proofs.Values.{told-same, steps-listed, idle, no-steps, refusal-told, no-refusal, answer-told}
 use Rattle.lists.proofs.Member.{true≢false}
 use Rattle.table.specs.Table.{wholeSectors, pages, frees}
 use Rattle.reclaim.specs.declared.plan.Plan.{Plan}
@@ -27,11 +27,6 @@ use Rattle.reclaim.specs.declared.plan.Plan.the-variants.{Refuse, Clear,
 use Rattle.reclaim.specs.Reclaim.{plan, planSteps, reclaiming}
 use Rattle.reclaim.specs.Promise.{reclaimTable, ReclaimPromise}
 use Rattle.reclaim.proofs.Answered.{Numbered, numbered}
-
--- no step, no change
-idle : (n : ℕ) (l : List ℕ) (ss : List Step) → ss ≡ [] → l ≡ run (take n ss) l
-unfolding run
-idle n l ss e = rw (e, take-nil {A = Step} n)
 
 no-tagged : {ss : List Step} → ss ≡ [] → tag Reclaim ss ≡ []
 unfolding tag
@@ -75,6 +70,10 @@ module _ (l : List ℕ) (n : ℕ) where
   -- two outcomes that the promise allows are the same
   pub reclaim-same : {m m′ : List ℕ} {r r′ : Answer} → ReclaimPromise l n m r → ReclaimPromise l n m′ r′ → (m ≡ m′) × (r ≡ r′)
   reclaim-same p q = (p .image ∙ sym (q .image), told-same (p .answer) (q .answer))
+
+  -- the steps told are those of the image's list
+  pub steps-are-made : {m : List ℕ} {r : Answer} → ReclaimPromise l n m r → stepsOf r ≡ length (take n (reclaiming l))
+  steps-are-made p = rw (untag-only Reclaim (reclaiming l)) at (steps-listed (p .answer))
 
   -- "nothing changed, 0 steps": a refused call leaves every byte
   pub refused-unchanged : {m : List ℕ} {r : Answer} → ReclaimPromise l n m r → refusal r ≡ true → (m ≡ l) × (stepsOf r ≡ 0)

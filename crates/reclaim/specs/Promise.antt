@@ -34,18 +34,17 @@ abbrev pub noSectorFree : List ℕ → Bool
 noSectorFree [] = true
 noSectorFree (f ∷ fs) = false
 
--- "reclaim 1, 3, 4, 8, 5, 6; then steps": 1 "image not 2 to 16 whole sectors", 3 "an Active page stands", 4 "no page below 126 Written", 8, 5 "a copy is
--- needed, no sector free", 6 "a copy is needed, greatest sequence above 0xFFFFFFFD", 7 "allowance used up before the end"
+-- "reclaim 1, 3, 4, 8, 5, 6; then steps"
 unfoldable pub reclaimTable : List ℕ → ℕ → List Line
 reclaimTable l n =
-    1 when not (wholeSectors l)
-    ∷ 3 when some-of activePage (pages l)
-    ∷ 4 when not (some-of candidate (pages l))
-    ∷ 8 when notReclaimable (pages l)
-    ∷ 5 when (copyNeeded (pages l) && noSectorFree (frees l))
-    ∷ 6 when (copyNeeded (pages l) && sequencesSpent (pages l))
-    ∷ 7 when ltb n (length (reclaiming l))
-    ∷ []
+    1 when not (wholeSectors l) ∷  -- "image not 2 to 16 whole sectors"
+    3 when some-of activePage (pages l) ∷  -- "reclaim: an Active page stands"
+    4 when not (some-of candidate (pages l)) ∷  -- "reclaim: no page below 126 Written"
+    8 when notReclaimable (pages l) ∷  -- "reclaim: chosen page neither Full nor Freeing"
+    5 when (copyNeeded (pages l) && noSectorFree (frees l)) ∷  -- "reclaim: a copy is needed, no sector free"
+    6 when (copyNeeded (pages l) && sequencesSpent (pages l)) ∷  -- "reclaim: a copy is needed, greatest sequence above 0xFFFFFFFD"
+    7 when ltb n (length (reclaiming l)) ∷  -- "allowance used up before the end"
+    []  -- 0 "the list of steps ended"
 
 -- "reclaim is one stage"
 pub record ReclaimPromise (l : List ℕ) (n : ℕ) (m : List ℕ) (r : Answer) : Type 0 where

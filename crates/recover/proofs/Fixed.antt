@@ -1,5 +1,5 @@
--- What recovery's promises fix: two outcomes that one allows are the same, a refusal changes no byte and no record, a stopped call stores no record. Assumes
--- nothing.
+-- What recovery's promises fix: two outcomes that one allows are the same, a refusal changes no byte and no record, a stopped call stores no record, and
+-- the steps told are those made. Assumes nothing.
 use mathlib.Core.Path.{_≡_, refl, sym, ap, ap₂, _∙_}
 use mathlib.Core.Bool.{true}
 use mathlib.Core.List.{List}
@@ -11,7 +11,7 @@ use Rattle.flash.proofs.Frame.{length-run}
 use Rattle.lists.proofs.Member.{true≢false}
 use Rattle.answer.specs.declared.Answer.{Answer}
 use Rattle.answer.specs.Answer.{numberOf, refusal, stepsOf}
-use Rattle.answer.proofs.Values.{told-same, refusal-number, no-steps, no-refusal}
+use Rattle.answer.proofs.Values.{told-same, steps-listed, idle, refusal-number, no-steps, no-refusal}
 use Rattle.page.specs.declared.«record».PageRecord.{PageRecord}
 use Rattle.table.specs.Table.{sectorsOf}
 use Rattle.table.proofs.Whole.{whole-is}
@@ -20,7 +20,7 @@ use Rattle.recover.specs.declared.Recovered.{Recovered}
 use Rattle.recover.specs.Promise.{called, calling, recoverAnswer, recordsAfter, rowsFor, Recovers, RecoverPromise}
 use Rattle.recover.proofs.Answered.{Way, way, recover-told}
 use Rattle.recover.proofs.Answered.Way.{refused, made}
-use Rattle.recover.proofs.Promised.{idle, none-calling}
+use Rattle.recover.proofs.Promised.{none-calling}
 use Rattle.recover.proofs.Numbers.{passed-all, number-0}
 
 -- a number above 0 leaves the records
@@ -40,6 +40,11 @@ module _ {l : List ℕ} {ys : List PageRecord} {n : ℕ} where
     -- the answer as a value
     pub recover-answer : r ≡ recoverAnswer l (length ys) n
     recover-answer = told-same (p .answer) (recover-told l (length ys) n)
+
+    -- the steps told are those of the image's list
+    pub steps-are-made : stepsOf r ≡ length (take n (calling l (length ys)))
+    unfolding calling
+    steps-are-made = steps-listed (p .answer)
 
     -- "allowance used up before the end": "records unchanged"
     pub stopped-records : numberOf r ≡ 7 → zs ≡ ys

@@ -11,7 +11,7 @@ use borrow.Author.Tests.{leb-true, ltb-true, ltb-false, le-leb, lt-ltb, le-ltb, 
 use Rattle.page.proofs.Tests.{both-first, both-second, both-is}
 use Rattle.answer.specs.declared.Answer.{Answer}
 use Rattle.answer.specs.Answer.{numberOf}
-use Rattle.answer.specs.Told.{before, conditionOf, None, Told}
+use Rattle.answer.specs.Told.{before, conditionOf, NoneHolds, Told}
 use Rattle.answer.proofs.Numbers.{absent, once, positive, given, given-last, not-given}
 use Rattle.lists.specs.Lists.{greatest}
 use Rattle.table.specs.Table.{sectorsOf, wholeSectors, pages, sequence}
@@ -21,7 +21,7 @@ use Rattle.recover.specs.Promise.{called, recoverTable}
 
 -- of "1, 2, 6; then steps" no condition before that of the number k holds
 abbrev pub Passed : List ℕ → ℕ → ℕ → ℕ → Type 0
-Passed l lent n k = None (before k (recoverTable l lent n))
+Passed l lent n k = NoneHolds (before k (recoverTable l lent n))
 
 -- no refusal's condition holds
 pub passed-all : (l : List ℕ) (lent n : ℕ) → Passed l lent n 7 ↔ ((wholeSectors l ≡ true) × (sectorsOf l ≤ lent) × (tooHigh (pages l) ≡ false))

@@ -4,9 +4,8 @@ use mathlib.Core.Bool.{true, false}
 use mathlib.Core.List.{List, [], _++_}
 use Prim.Native.Nat.{ℕ, zero, suc, _/_, _≤_, _<_}
 use lib.ListN.{length, take, drop}
-use lib.Seq.{take-nil}
 use borrow.Author.Tests.{le-leb, lt-leb}
-use Rattle.flash.specs.Step.{Step, run}
+use Rattle.flash.specs.Step.{run}
 use Rattle.flash.proofs.Frame.{length-run}
 use Rattle.answer.specs.declared.Stage.{Stage}
 use Rattle.answer.specs.declared.Went.{Went}
@@ -18,6 +17,7 @@ use Rattle.answer.specs.Staged.{Staged, untag}
 use Rattle.answer.specs.Told.{Told}
 use Rattle.answer.specs.Went.{Made, toldOf}
 use Rattle.answer.proofs.Made.{told-is}
+use Rattle.answer.proofs.Values.{idle}
 use Rattle.page.specs.declared.«record».PageRecord.{PageRecord}
 use Rattle.table.specs.Table.{sectorsOf, wholeSectors, pages}
 use Rattle.records.specs.declared.Rows.{Rows}
@@ -27,11 +27,6 @@ use Rattle.recover.specs.declared.Recovered.{Recovered}
 use Rattle.recover.specs.Recover.{tooHigh, recovering}
 use Rattle.recover.specs.Promise.{called, calling, recoverTable, wholeAnswer, recoverAnswer, recordsAfter, rowsFor, Recovers, RecoverPromise}
 use Rattle.recover.proofs.Answered.{none-whole, none-lent, none-high, steps-called, recover-told}
-
--- no step, no change
-pub idle : (n : ℕ) (l : List ℕ) (ss : List Step) → ss ≡ [] → l ≡ run (take n ss) l
-unfolding run
-idle n l ss e = rw (e, take-nil {A = Step} n)
 
 pub made-size : {ts : List Staged} {n : ℕ} {l m : List ℕ} {w : Went} → Made ts n l m w → length m ≡ length l
 made-size {ts} {n} {l} d = ap length (d .image) ∙ length-run (take n (untag ts)) l

@@ -25,15 +25,14 @@ called l lent = cond (leb (sectorsOf l) lent) (recovery l) []
 unfoldable pub calling : List ℕ → ℕ → List Step
 calling l lent = untag (called l lent)
 
--- "recovery 1, 2, 6; then steps": 1 "image not 2 to 16 whole sectors", 2 "fewer records than sectors", 6 "k Freeing pages, k above 0, greatest sequence above
--- 0xFFFFFFFE - k", 7 "allowance used up before the end"
+-- "recovery 1, 2, 6; then steps"
 unfoldable pub recoverTable : List ℕ → ℕ → ℕ → List Line
 recoverTable l lent n =
-    1 when not (wholeSectors l)
-    ∷ 2 when ltb lent (sectorsOf l)
-    ∷ 6 when tooHigh (pages l)
-    ∷ 7 when ltb n (length (called l lent))
-    ∷ []
+    1 when not (wholeSectors l) ∷  -- "image not 2 to 16 whole sectors"
+    2 when ltb lent (sectorsOf l) ∷  -- "recovery: fewer records than sectors"
+    6 when tooHigh (pages l) ∷  -- "recovery: k Freeing pages, k above 0, greatest sequence above 0xFFFFFFFE - k"
+    7 when ltb n (length (called l lent)) ∷  -- "allowance used up before the end"
+    []  -- 0 "the list of steps ended"
 
 -- the records after an answer of a number: 0 "recovery fills the records", by the image m that it left; "Records past the sectors stay unchanged", and every
 -- other number leaves them all
