@@ -1,3 +1,5 @@
 pub mod Tagged
 pub mod Made
 pub mod Ended
+pub mod Values
+pub mod Numbers

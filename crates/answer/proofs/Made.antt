@@ -79,7 +79,7 @@ went-over n ts us h =
     let e : n - length (ts ++ us) ≡ n - length ts - length us = omega (arith, length-append ts us) in
     rw (left-over n ts us h, e)
 
-went-short : (n : ℕ) (ts : List Staged) → n < length ts → (x : Stage) × (went n ts ≡ Short x)
+pub went-short : (n : ℕ) (ts : List Staged) → n < length ts → (x : Stage) × (went n ts ≡ Short x)
 unfolding went
 went-short n ts h =
     let s = some-left n ts h in

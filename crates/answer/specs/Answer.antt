@@ -1,6 +1,8 @@
 -- Rule. Document 01, Result numbers: the number and the values of each answer. Assumes nothing.
-use mathlib.Core.Bool.{Bool, true, false}
+use mathlib.Core.Bool.{Bool, not, _&&_}
+use mathlib.Core.Option.{Option, none, some}
 use Prim.Native.Nat.{ℕ}
+use lib.Dec.{eqb}
 use Rattle.answer.specs.declared.Stage.{Stage}
 use Rattle.answer.specs.declared.Answer.{Answer}
 use Rattle.answer.specs.declared.Answer.the-variants.{Done, NotSectors, FewRecords, ActiveStands, AllWritten, NoFreeSector, SequencesSpent, Stopped, NotReclaimable}
@@ -28,14 +30,18 @@ stepsOf SequencesSpent = 0
 stepsOf (Stopped s n) = n
 stepsOf NotReclaimable = 0
 
+-- "A stopped call says in which stage, and for the finish stage which source sector."
+abbrev pub stageOf : Answer → Option Stage
+stageOf (Done n) = none
+stageOf NotSectors = none
+stageOf FewRecords = none
+stageOf ActiveStands = none
+stageOf AllWritten = none
+stageOf NoFreeSector = none
+stageOf SequencesSpent = none
+stageOf (Stopped s n) = some s
+stageOf NotReclaimable = none
+
 -- "0 and 7 are no refusals."
 abbrev pub refusal : Answer → Bool
-refusal (Done n) = false
-refusal NotSectors = true
-refusal FewRecords = true
-refusal ActiveStands = true
-refusal AllWritten = true
-refusal NoFreeSector = true
-refusal SequencesSpent = true
-refusal (Stopped s n) = false
-refusal NotReclaimable = true
+refusal a = not (eqb (numberOf a) 0) && not (eqb (numberOf a) 7)

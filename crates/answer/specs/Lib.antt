@@ -1,3 +1,4 @@
 pub mod Answer
 pub mod Staged
 pub mod Went
+pub mod Told

@@ -1,2 +1,3 @@
 pub mod Enter
 pub mod Part
+pub mod Fixed

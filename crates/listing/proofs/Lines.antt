@@ -2,23 +2,23 @@
 use mathlib.Core.Path.{_≡_, refl, sym, ap, _∙_}
 use mathlib.Core.Bool.{Bool, true, false, cond}
 use mathlib.Core.List.{List, [], _∷_, _++_, append-assoc, append-nil}
-use Prim.Native.Nat.{ℕ, zero, suc, _+_, _/_, _≤_, _<_}
+use Prim.Native.Nat.{ℕ, suc, _+_, _/_, _≤_, _<_}
 use native.Mathlib.Omega.{arith}
-use lib.ListN.{length, take, getD, length-append, length-take}
+use lib.ListN.{length, take, getD}
 use lib.Seq.{take-suc, length-take-le}
 use Rattle.page.specs.declared.«record».PageRecord.{PageRecord}
 use Rattle.page.specs.State.{isFree}
-use Rattle.page.specs.Record.{recordOf}
-use Rattle.flash.specs.Step.{sector}
 use Rattle.table.specs.Table.{sectorsOf}
 use Rattle.answer.specs.declared.Answer.{Answer}
 use Rattle.answer.specs.declared.Answer.the-variants.{Done, NotSectors, FewRecords, ActiveStands, AllWritten, NoFreeSector, SequencesSpent, Stopped, NotReclaimable}
 use Rattle.answer.specs.Answer.{numberOf}
 use Rattle.records.specs.declared.Rows.{Rows}
-use Rattle.records.specs.Records.{recordsTo, noRows}
+use Rattle.records.specs.Records.{noRows}
+use Rattle.records.proofs.Reading.{rows-read, rows-there}
 use Rattle.recover.specs.declared.Recovered.{Recovered}
 use Rattle.recover.specs.Promise.{rowsFor, Recovers}
 use Rattle.recover.proofs.Ends.{answer-unstopped}
+use Rattle.recover.proofs.Fixed.{recovers-answer}
 use Rattle.listing.specs.Text.{space, newline, decimal}
 use Rattle.listing.specs.Listing.{stateName, pageText, line, lines, head, linesFor, lent, allowance, answered, listing}
 
@@ -47,11 +47,6 @@ lines-more rs n d h =
     ap (lines 0) (take-suc rs n d h) ∙ lines-behind 0 (take n rs) (getD rs n d) ∙
     ap (λ (k : ℕ). lines 0 (take n rs) ++ line k (getD rs n d)) (omega (arith, length-take-le n rs (omega arith)))
 
-pub length-records : (l : List ℕ) (n : ℕ) → length (recordsTo l n) ≡ n
-unfolding recordsTo
-length-records l zero = refl
-length-records l (suc n) = omega (arith, length-append (recordsTo l n) (recordOf (sector n l) ∷ []), length-records l n)
-
 -- the rows that recovery hands out are the records that are listed: none where it is refused, and it is never stopped
 module _ (m : List ℕ) (t : Rows) where
   abbrev There : List ℕ → Type 0
@@ -61,30 +56,30 @@ module _ (m : List ℕ) (t : Rows) where
   unfolding lines
   none e = (omega (arith, ap (λ (u : Rows). u .count) e), ap (λ (u : Rows). lines 0 (take (u .count) (u .rows))) e)
 
-  rows-there : (a : Answer) → (numberOf a ≡ 7 → ⊥) → rowsFor a m t → There (linesFor a m)
+  handed-out : (a : Answer) → (numberOf a ≡ 7 → ⊥) → t ≡ rowsFor (numberOf a) m → There (linesFor a m)
   unfolding linesFor
-  rows-there (Done k) u e = (
-    omega (arith, length-take (sectorsOf m) (t .rows), ap length (e .rows), length-records m (sectorsOf m), e .count),
-    ap (λ (n : ℕ). lines 0 (take n (t .rows))) (e .count) ∙ ap (lines 0) (e .rows),
+  handed-out (Done k) u e = (
+    rw e (rows-there m (sectorsOf m)),
+    ap (λ (u : Rows). lines 0 (take (u .count) (u .rows))) e ∙ ap (lines 0) (rows-read m (sectorsOf m)),
   )
-  rows-there NotSectors u e = none e
-  rows-there FewRecords u e = none e
-  rows-there ActiveStands u e = none e
-  rows-there AllWritten u e = none e
-  rows-there NoFreeSector u e = none e
-  rows-there SequencesSpent u e = none e
-  rows-there (Stopped x k) u e = absurd (u refl)
-  rows-there NotReclaimable u e = none e
+  handed-out NotSectors u e = none e
+  handed-out FewRecords u e = none e
+  handed-out ActiveStands u e = none e
+  handed-out AllWritten u e = none e
+  handed-out NoFreeSector u e = none e
+  handed-out SequencesSpent u e = none e
+  handed-out (Stopped x k) u e = absurd (u refl)
+  handed-out NotReclaimable u e = none e
 
 module _ (l m : List ℕ) (r : Recovered) (p : Recovers l lent allowance m r) where
   unstopped : numberOf (r .answer) ≡ 7 → ⊥
-  unstopped e = answer-unstopped l lent allowance (omega arith) (sym (ap numberOf (p .answer)) ∙ e)
+  unstopped e = answer-unstopped l lent allowance (omega arith) (sym (ap numberOf (recovers-answer p)) ∙ e)
 
   pub rows-enough : r .rows .count ≤ length (r .rows .rows)
-  rows-enough = rows-there m (r .rows) (r .answer) unstopped (p .rows) .0
+  rows-enough = handed-out m (r .rows) (r .answer) unstopped (p .rows) .0
 
   pub listing-is : (bytes : ℕ) → head (bytes / 4096) (r .answer) ++ lines 0 (take (r .rows .count) (r .rows .rows)) ≡ listing l bytes
   unfolding listing
   listing-is bytes =
-      ap (λ (s : List ℕ). head (bytes / 4096) (r .answer) ++ s) (rows-there m (r .rows) (r .answer) unstopped (p .rows) .1) ∙
-      ap (λ (a : Answer). head (bytes / 4096) a ++ linesFor a m) (p .answer) ∙ ap (λ (i : List ℕ). head (bytes / 4096) (answered l) ++ linesFor (answered l) i) (p .image)
+      ap (λ (s : List ℕ). head (bytes / 4096) (r .answer) ++ s) (handed-out m (r .rows) (r .answer) unstopped (p .rows) .1) ∙
+      ap (λ (a : Answer). head (bytes / 4096) a ++ linesFor a m) (recovers-answer p) ∙ ap (λ (i : List ℕ). head (bytes / 4096) (answered l) ++ linesFor (answered l) i) (p .image)

@@ -32,7 +32,8 @@ use Rattle.recover.proofs.Ends.{steps-most}
 use Rattle.io.specs.Digits.{glyph}
 use Rattle.listing.specs.Text.{word, space, newline, spelled, decimal, field}
 use Rattle.listing.specs.Listing.{stateName, counts, pageText, line, lines, head, linesFor, allowance, lent, imageAfter, answered, listing, room}
-use Rattle.listing.proofs.Lines.{lines-behind, length-records}
+use Rattle.records.proofs.Reading.{length-records}
+use Rattle.listing.proofs.Lines.{lines-behind}
 
 -- a number below 10 ^ k has k digits at most
 spelled-most : (turns n k : ℕ) → n < 10 ^ suc k → length (spelled turns n) ≤ suc k

@@ -15,7 +15,8 @@ use Rattle.answer.proofs.Tagged.{made-no-refusal}
 use Rattle.answer.proofs.Made.{length-untag, done-fits}
 use Rattle.table.specs.Table.{sectorsOf, wholeSectors, pages}
 use Rattle.recover.specs.Recover.{tooHigh, recovering, accepted, recovery}
-use Rattle.recover.specs.Promise.{calling, wholeAnswer, recoverAnswer}
+use Rattle.recover.specs.Promise.{called, calling, wholeAnswer, recoverAnswer}
+use Rattle.recover.proofs.Fixed.{recover-answer}
 use Rattle.recover.proofs.Ends.{recover-ended}
 use Rattle.reclaim.specs.Promise.{ReclaimPromise}
 use Rattle.power.specs.Demand3.{Store, Safe, failing, recoveries, recovered, held}
@@ -25,7 +26,7 @@ use Rattle.power.proofs.Demand3.{demand3}
 module _ (l m : List ℕ) (a : Answer) (h : Called l m a) where
   -- with records enough the steps are recovery's
   steps : m ≡ run (take (h .allowance) (untag (recovery l))) l
-  unfolding calling
+  unfolding calling called
   steps = rw (le-leb (sectorsOf l) (length (h .lent)) (h .enough)) at (h .promised .image)
 
   answered : accepted l ≡ true → a ≡ answerOf (h .allowance) (recovering l)
@@ -33,7 +34,7 @@ module _ (l m : List ℕ) (a : Answer) (h : Called l m a) where
   answered e =
       let w = both-first (wholeSectors l) (not (tooHigh (pages l))) e in
       let t = not-true (tooHigh (pages l)) (both-second (wholeSectors l) (not (tooHigh (pages l))) e) in
-      rw (w, le-leb (sectorsOf l) (length (h .lent)) (h .enough), t) at (h .promised .answer)
+      rw (w, le-leb (sectorsOf l) (length (h .lent)) (h .enough), t) at (recover-answer (h .promised))
 
   accepts-call : accepted l ≡ true → refusal a ≡ false
   accepts-call e = ap refusal (answered e) ∙ made-no-refusal (h .allowance) (recovering l)

@@ -1,63 +1,46 @@
 -- Within the premises of demand 3 reclaim is not refused: no page is Active, one is below 126, it is Full, a sector is free, sequences are left.
 -- Assumes nothing.
-use mathlib.Core.Path.{_≡_, refl, sym, ap, _∙_}
-use mathlib.Core.Logic.{inl}
-use mathlib.Core.Bool.{Bool, true, false, cond, not}
-use mathlib.Core.Option.{Option, none, some}
-use mathlib.Core.List.{List, [], _∷_, getLast?}
+use mathlib.Core.Path.{_≡_, refl, ap, _∙_}
+use mathlib.Core.Bool.{Bool, true, false, cond, not, _&&_}
+use mathlib.Core.Option.{some}
+use mathlib.Core.List.{List, [], _∷_}
 use Prim.Native.Nat.{ℕ, _≤_, _<_}
 use native.Mathlib.Omega.{arith}
 use lib.Dec.{eqb, ltb}
 use lib.ListN.{length}
 use borrow.Author.Tests.{ltb-true, le-ltb}
 use Rattle.page.proofs.Tests.{both-first}
-use Rattle.page.specs.State.{stateOf}
 use Rattle.flash.specs.Step.{sector}
-use Rattle.lists.specs.Lists.{greatest, keep, some-of}
+use Rattle.lists.specs.Lists.{greatest, keep}
 use Rattle.lists.proofs.Member.{_∈_}
-use Rattle.lists.proofs.Search.{best-some, every-of, in-keep, keep-in, last-some, some-in, some-none}
+use Rattle.lists.proofs.Search.{best-some, every-of, in-keep, keep-in, some-in, some-none}
 use Rattle.lists.proofs.Sums.{greatest-lt}
 use Rattle.table.specs.declared.Page.{Page}
-use Rattle.table.specs.Table.{activePage, frees, pages, sectorsOf, sequence, wholeSectors}
+use Rattle.table.specs.Table.{activePage, frees, pages, sequence, wholeSectors}
 use Rattle.table.proofs.Pages.{page-state, pages-in}
-use Rattle.answer.specs.declared.Stage.the-variants.{Reclaim}
 use Rattle.answer.specs.declared.Answer.{Answer}
-use Rattle.answer.specs.declared.Answer.the-variants.{SequencesSpent}
 use Rattle.answer.specs.Answer.{numberOf, refusal}
-use Rattle.answer.specs.Staged.{tag}
-use Rattle.answer.proofs.Tagged.{made-no-refusal}
+use Rattle.answer.specs.Told.{numberIn}
 use Rattle.recover.specs.Recover.{accepted, tooHigh}
-use Rattle.reclaim.specs.declared.plan.Plan.{Plan}
-use Rattle.reclaim.specs.declared.plan.Plan.the-variants.{Refuse, Clear, Move}
-use Rattle.reclaim.specs.Reclaim.{candidate, chosen, closed, next, noFewerPoints, plan, planSteps, planTo, planWith}
-use Rattle.reclaim.specs.Promise.{planAnswer, reclaimAnswer}
+use Rattle.reclaim.specs.Reclaim.{candidate, chosen, closed, next, noFewerPoints, reclaiming, sequencesSpent}
+use Rattle.reclaim.specs.Promise.{noSectorFree, reclaimTable}
 use Rattle.reclaim.proofs.Ends.{reclaim-ended}
 use Rattle.power.specs.Demand3.{Premises}
 use Rattle.power.specs.Calls.{Reclaims}
 use Rattle.power.proofs.Premises.{good, no-active}
 
 module _ (l : List ℕ) (S : Premises l) (n : ℕ) where
-  abbrev Taken : Plan → Type 0
-  Taken p = refusal (planAnswer n l p) ≡ false
-
   -- "below 0xFFFFFFF0"
   sequences-left : greatest sequence (pages l) < 0xFFFFFFF0
   sequences-left = greatest-lt sequence (pages l) 0xFFFFFFF0 (omega arith) (λ p m. ltb-true (sequence p) 0xFFFFFFF0 (every-of (λ (q : Page). ltb (sequence q) 0xFFFFFFF0) (pages l) (S .below) p m))
 
   -- "a free sector"
-  last-free : (t : ℕ) × (getLast? (frees l) ≡ some t)
-  last-free = go (frees l) (S .free-sector)
+  some-free : noSectorFree (frees l) ≡ false
+  some-free = go (frees l) (S .free-sector)
     where
-      go : (fs : List ℕ) → 1 ≤ length fs → (t : ℕ) × (getLast? fs ≡ some t)
+      go : (fs : List ℕ) → 1 ≤ length fs → noSectorFree fs ≡ false
       go [] h = absurd (omega arith)
-      go (f ∷ fs) h = let r = last-some (f ∷ fs) f (inl refl) in (r .0, r .1)
-
-  to-taken : (s : ℕ) → Taken (planTo (pages l) s (getLast? (frees l)))
-  unfolding planTo planAnswer
-  to-taken s =
-      let t = last-free in
-      rw (t .1, le-ltb 0xFFFFFFFD (greatest sequence (pages l)) (omega (arith, sequences-left)))
-      (made-no-refusal n (tag Reclaim (planSteps l (Move s (t .0) (next (pages l))))))
+      go (f ∷ fs) h = refl
 
   -- "a page with fewer than 126 written entries"
   choice : (x : Page) × (chosen (pages l) ≡ some x) × (x ∈ pages l)
@@ -73,21 +56,27 @@ module _ (l : List ℕ) (S : Premises l) (n : ℕ) where
       let full = good l S (x .sector) (r .1) (r .2) .fulls (x .sector) (r .1) (r .2) in
       ap closed (page-state l x m ∙ full)
 
-  plan-taken : Taken (plan (pages l) (frees l))
-  unfolding plan planWith planAnswer
-  plan-taken =
+  -- no refusal's condition holds
+  numbered : numberIn (reclaimTable l n) ≡ cond (ltb n (length (reclaiming l))) 7 0
+  unfolding reclaimTable numberIn accepted
+  numbered =
       let x = choice in
-      rw (some-none activePage (pages l) (no-active l S), x .1, is-closed (x .0) (x .2)) (go (x .0 .sector) (eqb (x .0 .seen .erased) 126))
+      let whole = both-first (wholeSectors l) (not (tooHigh (pages l))) (S .accepts) in
+      let spent : sequencesSpent (pages l) ≡ false = le-ltb 0xFFFFFFFD (greatest sequence (pages l)) (omega (arith, sequences-left)) in
+      rw (whole, some-none activePage (pages l) (no-active l S), S .below-126, x .1, is-closed (x .0) (x .2), some-free, spent) (go (eqb (x .0 .seen .erased) 126))
     where
-      go : (s : ℕ) (b : Bool) → Taken (cond b (Clear s) (planTo (pages l) s (getLast? (frees l))))
-      go s true = made-no-refusal n (tag Reclaim (planSteps l (Clear s)))
-      go s false = to-taken s
+      go : (b : Bool) → cond (not b && false) 5 (cond (not b && false) 6 (cond (ltb n (length (reclaiming l))) 7 0)) ≡ cond (ltb n (length (reclaiming l))) 7 0
+      go true = refl
+      go false = refl
 
-  answer-taken : refusal (reclaimAnswer l n) ≡ false
-  unfolding reclaimAnswer accepted
-  answer-taken = rw (both-first (wholeSectors l) (not (tooHigh (pages l))) (S .accepts)) plan-taken
+  taken : (r : Answer) → numberOf r ≡ numberIn (reclaimTable l n) → refusal r ≡ false
+  taken r e = rw (e ∙ numbered) (go (ltb n (length (reclaiming l))))
+    where
+      go : (b : Bool) → (not (eqb (cond b 7 0) 0) && not (eqb (cond b 7 0) 7)) ≡ false
+      go true = refl
+      go false = refl
 
 pub reclaims : Reclaims
 reclaims l S n m r p =
-    let taken : refusal r ≡ false = ap refusal (p .answer) ∙ answer-taken l S n in
-    (taken, λ allowed. reclaim-ended l n allowed p taken)
+    let t = taken l S n r (p .answer .number) in
+    (t, λ allowed. reclaim-ended p allowed t)

@@ -1,3 +1,6 @@
 pub mod Planned
+pub mod Choice
+pub mod Answered
 pub mod Promised
+pub mod Numbers
 pub mod Ends

@@ -43,10 +43,14 @@ closed Active = false
 closed Full = true
 closed Freeing = true
 
--- "a copy is needed": 5 "no sector free", 6 "greatest sequence above 0xFFFFFFFD"
+-- 6 "greatest sequence above 0xFFFFFFFD"
+abbrev pub sequencesSpent : List Page → Bool
+sequencesSpent ps = ltb 0xFFFFFFFD (greatest sequence ps)
+
+-- "a copy is needed": 5 "no sector free", then 6
 unfoldable pub planTo : List Page → ℕ → Option ℕ → Plan
 planTo ps s none = Refuse NoFreeSector
-planTo ps s (some t) = cond (ltb 0xFFFFFFFD (greatest sequence ps)) (Refuse SequencesSpent) (Move s t (next ps))
+planTo ps s (some t) = cond (sequencesSpent ps) (Refuse SequencesSpent) (Move s t (next ps))
 
 -- "If all 126 are Erased it is erased. Otherwise" a copy is needed; 4 "no page below 126 Written"
 unfoldable pub planWith : List Page → List ℕ → Option Page → Plan

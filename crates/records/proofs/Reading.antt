@@ -1,15 +1,35 @@
--- The records of one sector more. Assumes nothing.
-use mathlib.Core.Path.{_≡_}
+-- The rows of an image: one sector more, and how many are its records. Assumes nothing.
+use mathlib.Core.Path.{_≡_, refl, sym, _∙_}
 use mathlib.Core.List.{List, [], _∷_, _++_}
-use Prim.Native.Nat.{ℕ, _+_, _-_, _*_}
+use Prim.Native.Nat.{ℕ, zero, suc, _+_, _-_, _≤_, _<_}
 use native.Mathlib.Omega.{arith}
 use native.Mathlib.Numerals.{add-one}
-use lib.ListN.{take, drop}
+use lib.ListN.{length, take, set, replicate, length-append}
+use lib.Seq.{set-at, take-at, append-snoc}
 use Rattle.flash.specs.Step.{sector}
 use Rattle.page.specs.Record.{recordOf}
-use Rattle.records.specs.Records.{recordsTo}
+use Rattle.records.specs.Records.{recordsTo, blankRecord, rowsOf}
+
+pub length-records : (l : List ℕ) (n : ℕ) → length (recordsTo l n) ≡ n
+unfolding recordsTo
+length-records l zero = refl
+length-records l (suc n) = omega (arith, length-append (recordsTo l n) (recordOf (sector n l) ∷ []), length-records l n)
 
 module _ (l : List ℕ) (n : ℕ) where
   pub records-more : recordsTo l (n + 1) ≡ recordsTo l n ++ (recordOf (sector n l) ∷ [])
   unfolding recordsTo
   records-more = rw add-one
+
+  -- the next row is read
+  pub row-read : n < 16 → set (rowsOf l n .rows) n (recordOf (sector n l)) ≡ rowsOf l (n + 1) .rows
+  row-read h =
+      let blank = replicate (16 - (n + 1)) blankRecord in
+      let e : 16 - n ≡ suc (16 - (n + 1)) = omega arith in
+      rw (e, records-more) (set-at (recordsTo l n) blankRecord blank (recordOf (sector n l)) n (length-records l n) ∙ sym (append-snoc (recordsTo l n) (recordOf (sector n l)) blank))
+
+  -- the rows that count are the records
+  pub rows-read : take n (rowsOf l n .rows) ≡ recordsTo l n
+  rows-read = take-at (recordsTo l n) (replicate (16 - n) blankRecord) n (length-records l n)
+
+  pub rows-there : n ≤ length (rowsOf l n .rows)
+  rows-there = omega (arith, length-append (recordsTo l n) (replicate (16 - n) blankRecord), length-records l n)

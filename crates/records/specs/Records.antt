@@ -1,8 +1,7 @@
 -- Rule. Document 01, Result numbers: "The page list goes into lent page records, one a sector, in sector order, after recovery's last step .. Records past
 -- the sectors stay unchanged." Assumes nothing.
-use mathlib.Core.Path.{_≡_}
 use mathlib.Core.List.{List, [], _∷_, _++_}
-use Prim.Native.Nat.{ℕ, zero, suc}
+use Prim.Native.Nat.{ℕ, zero, suc, _-_}
 use lib.ListN.{take, drop, replicate}
 use Rattle.flash.specs.Step.{sector}
 use Rattle.page.specs.declared.state.PageState.the-variants.{Blank}
@@ -26,7 +25,6 @@ blankRecord = freeRecord Blank
 abbrev pub noRows : Rows
 noRows = record { rows = replicate 16 blankRecord; count = 0 }
 
--- the rows of an image of n sectors
-pub record RowsOf (l : List ℕ) (n : ℕ) (r : Rows) : Type 0 where
-  pub rows : take n (r .rows) ≡ recordsTo l n
-  pub count : r .count ≡ n
+-- the rows of an image of n sectors, whole: their records, then blank ones up to the array's 16
+abbrev pub rowsOf : List ℕ → ℕ → Rows
+rowsOf l n = record { rows = recordsTo l n ++ replicate (16 - n) blankRecord; count = n }

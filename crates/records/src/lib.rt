@@ -5,7 +5,7 @@ ghost use mathlib.Core.Path.{_≡_};
 ghost use Prim.Native.Nat.{_*_, _<_, _≤_};
 ghost use lib.ListN.{length, getD, take};
 ghost use Rattle.crc.specs.Table.{crcTable};
-ghost use Rattle.records.specs.Records.{filled, blankRecord, recordsTo, noRows, RowsOf};
+ghost use Rattle.records.specs.Records.{filled, blankRecord, noRows, rowsOf};
 
 // The records to store, by value: `count` is 0 where a call stores none.
 pub struct Rows {
@@ -37,7 +37,7 @@ pub fn no_rows() -> Rows
 // The record of each sector, in sector order.
 pub fn read_rows(t: &[u32; 324], image: &[u8], sectors: usize) -> Rows
     requires { ⌜ (now t ≡ crcTable) × (length (now image) ≡ sectors * 4096) × (sectors ≤ 16) ⌝ }
-    ensures { λ r. ⌜ RowsOf (now (image .entry)) sectors r ⌝ }
+    ensures { λ r. ⌜ r ≡ rowsOf (now (image .entry)) sectors ⌝ }
 {
     let mut rows = [blank_record(); 16];
     let mut n: usize = 0;

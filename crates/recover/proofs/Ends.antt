@@ -5,7 +5,7 @@ use mathlib.Core.List.{List, [], _++_}
 use Prim.Native.Nat.{ℕ, zero, suc, _+_, _*_, _≤_}
 use native.Mathlib.Omega.{arith}
 use lib.Dec.{leb}
-use lib.ListN.{length, take, length-append, length-take}
+use lib.ListN.{length, length-append, length-take}
 use Rattle.page.specs.declared.«record».PageRecord.{PageRecord}
 use Rattle.flash.specs.Step.{run}
 use Rattle.flash.proofs.Frame.{length-run}
@@ -17,7 +17,7 @@ use Rattle.answer.specs.declared.Stage.the-variants.{Order, Blobs, Duplicates}
 use Rattle.answer.specs.declared.Answer.{Answer}
 use Rattle.answer.specs.declared.Answer.the-variants.{Done, NotSectors, FewRecords, SequencesSpent}
 use Rattle.answer.specs.Answer.{numberOf, stepsOf, refusal}
-use Rattle.answer.specs.Staged.{Staged, tag, untag, answerOf}
+use Rattle.answer.specs.Staged.{tag, untag, answerOf}
 use Rattle.answer.proofs.Tagged.{length-tag, steps-told}
 use Rattle.answer.proofs.Made.{length-untag}
 use Rattle.answer.proofs.Ended.{fits-done, neither-ended}
@@ -35,6 +35,7 @@ use Rattle.duplicates.specs.Duplicates.{duplicateSteps, lastMarks, duplicateSta
 use Rattle.duplicates.proofs.Lengths.{duplicates-most, marks-most}
 use Rattle.recover.specs.Recover.{lastStages, fromOrder, fromFinish, afterOrder, recovering, tooHigh, accepted, recovery}
 use Rattle.recover.specs.Promise.{wholeAnswer, recoverAnswer, mostSteps, RecoverPromise}
+use Rattle.recover.proofs.Fixed.{recover-answer}
 
 -- 3 and 4: a version or a group an item at most, and a mark a page
 abbrev mostLast : ℕ
@@ -123,7 +124,7 @@ module _ (l : List ℕ) (lent n : ℕ) (allowed : mostSteps ≤ n) where
 
 module _ {l m : List ℕ} {ys zs : List PageRecord} {n : ℕ} {r : Answer} (p : RecoverPromise l ys n m zs r) (allowed : mostSteps ≤ n) where
   pub recover-unstopped : numberOf r ≡ 7 → ⊥
-  recover-unstopped e = answer-unstopped l (length ys) n allowed (sym (ap numberOf (p .answer)) ∙ e)
+  recover-unstopped e = answer-unstopped l (length ys) n allowed (sym (ap numberOf (recover-answer p)) ∙ e)
 
   pub recover-ended : refusal r ≡ false → numberOf r ≡ 0
   recover-ended f = neither-ended r f recover-unstopped

@@ -1,5 +1,7 @@
 pub mod Sequence
 pub mod Listed
+pub mod Answered
+pub mod Numbers
 pub mod Promised
 pub mod Enter
 pub mod Fixed

@@ -1,77 +1,52 @@
--- From the refusals and from what the stages made to the promise; two outcomes that it allows are the same; a refusal changes nothing. Assumes nothing.
+-- From the refusals and from what the stages made to the promise, and from the rows to the records stored. Assumes nothing.
 use mathlib.Core.Path.{_≡_, refl, sym, ap, _∙_}
-use mathlib.Core.Bool.{Bool, true, false, cond, not, _&&_}
-use mathlib.Core.List.{List, []}
-use Prim.Native.Nat.{ℕ, _*_, _/_, _≤_, _<_}
-use native.Mathlib.Omega.{arith}
-use lib.Dec.{leb}
-use lib.ListN.{length, take}
-use lib.Seq.{take-nil}
+use mathlib.Core.Bool.{true, false}
+use mathlib.Core.List.{List, [], _++_}
+use Prim.Native.Nat.{ℕ, zero, suc, _/_, _≤_, _<_}
+use lib.ListN.{length, take, drop}
 use borrow.Author.Tests.{le-leb, lt-leb}
-use Rattle.flash.specs.Step.{Step, run}
+use Rattle.flash.specs.Step.{run}
 use Rattle.flash.proofs.Frame.{length-run}
 use Rattle.answer.specs.declared.Stage.{Stage}
 use Rattle.answer.specs.declared.Went.{Went}
 use Rattle.answer.specs.declared.Went.the-variants.{Ended, Short}
 use Rattle.answer.specs.declared.Answer.{Answer}
-use Rattle.answer.specs.declared.Answer.the-variants.{Done, NotSectors, FewRecords, ActiveStands, AllWritten, NoFreeSector, SequencesSpent, Stopped, NotReclaimable}
-use Rattle.answer.specs.Staged.{Staged, untag, answerOf}
-use Rattle.answer.specs.Went.{Made, went, toldOf}
+use Rattle.answer.specs.declared.Answer.the-variants.{NotSectors, FewRecords, SequencesSpent}
+use Rattle.answer.specs.Answer.{numberOf}
+use Rattle.answer.specs.Staged.{Staged, untag}
+use Rattle.answer.specs.Told.{Told}
+use Rattle.answer.specs.Went.{Made, toldOf}
 use Rattle.answer.proofs.Made.{told-is}
+use Rattle.answer.proofs.Values.{idle}
 use Rattle.page.specs.declared.«record».PageRecord.{PageRecord}
 use Rattle.table.specs.Table.{sectorsOf, wholeSectors, pages}
-use Rattle.table.proofs.Whole.{whole-is}
 use Rattle.records.specs.declared.Rows.{Rows}
-use Rattle.records.specs.Records.{filled, recordsTo, noRows, RowsOf}
+use Rattle.records.specs.Records.{filled, noRows, rowsOf}
+use Rattle.records.proofs.Reading.{rows-read}
 use Rattle.recover.specs.declared.Recovered.{Recovered}
-use Rattle.recover.specs.Recover.{tooHigh, recovering, accepted, recovery}
-use Rattle.recover.specs.Promise.{wholeAnswer, recoverAnswer, calling, recordsAfter, rowsFor, Recovers, RecoverPromise}
-
--- no step, no change
-pub idle : (n : ℕ) (l : List ℕ) (ss : List Step) → ss ≡ [] → l ≡ run (take n ss) l
-unfolding run
-idle n l ss e = rw (e, take-nil {A = Step} n)
+use Rattle.recover.specs.Recover.{tooHigh, recovering}
+use Rattle.recover.specs.Promise.{called, calling, recoverTable, wholeAnswer, recoverAnswer, recordsAfter, rowsFor, Recovers, RecoverPromise}
+use Rattle.recover.proofs.Answered.{none-whole, none-lent, none-high, steps-called, recover-told}
 
 pub made-size : {ts : List Staged} {n : ℕ} {l m : List ℕ} {w : Went} → Made ts n l m w → length m ≡ length l
 made-size {ts} {n} {l} d = ap length (d .image) ∙ length-run (take n (untag ts)) l
 
 -- ---- the refusals
 
-module _ (l : List ℕ) (lent : ℕ) where
-  pub none-whole : wholeSectors l ≡ false → calling l lent ≡ []
-  unfolding calling recovery accepted untag
-  none-whole e = go (leb (sectorsOf l) lent)
-    where
-      go : (b : Bool) → cond b (untag (cond (wholeSectors l && not (tooHigh (pages l))) (recovering l) [])) [] ≡ []
-      go true = rw e
-      go false = refl
-
-  pub none-lent : lent < sectorsOf l → calling l lent ≡ []
-  unfolding calling
-  none-lent h = rw (lt-leb (sectorsOf l) lent h)
-
-  pub none-high : tooHigh (pages l) ≡ true → calling l lent ≡ []
-  unfolding calling recovery accepted untag
-  none-high e = go (leb (sectorsOf l) lent) (wholeSectors l)
-    where
-      go : (b w : Bool) → cond b (untag (cond (w && not (tooHigh (pages l))) (recovering l) [])) [] ≡ []
-      go true true = rw e
-      go true false = refl
-      go false w = refl
-
-  pub steps-called : wholeSectors l ≡ true → sectorsOf l ≤ lent → tooHigh (pages l) ≡ false → calling l lent ≡ untag (recovering l)
-  unfolding calling recovery accepted
-  steps-called whole enough low = rw (le-leb (sectorsOf l) lent enough, whole, low)
+pub none-calling : (l : List ℕ) (lent : ℕ) → called l lent ≡ [] → calling l lent ≡ []
+unfolding calling untag
+none-calling l lent e = rw e
 
 module _ (l : List ℕ) (lent n : ℕ) where
-  refused : {r : Recovered} (a : Answer) → rowsFor a l noRows → calling l lent ≡ [] → a ≡ recoverAnswer l lent n → r .answer ≡ a → r .rows ≡ noRows → Recovers l lent n l r
+  answer-as : {a : Answer} → a ≡ recoverAnswer l lent n → Told (recoverTable l lent n) n (called l lent) a
+  answer-as e = rw e (recover-told l lent n)
+
+  refused : {r : Recovered} (a : Answer) → noRows ≡ rowsFor (numberOf a) l → called l lent ≡ [] → a ≡ recoverAnswer l lent n → r .answer ≡ a → r .rows ≡ noRows → Recovers l lent n l r
   refused {r} a f none answer e s =
       record {
-        image = idle n l (calling l lent) none;
-        answer = e ∙ answer;
-        rows = rw (e, s) f;
-        few = rw s (omega arith);
-        fits = rw s (omega arith);
+        answer = answer-as (e ∙ answer);
+        image = idle n l (calling l lent) (none-calling l lent none);
+        rows = rw e (s ∙ f);
       }
 
   pub refused-sectors : {r : Recovered} → wholeSectors l ≡ false → r .answer ≡ NotSectors → r .rows ≡ noRows → Recovers l lent n l r
@@ -94,6 +69,7 @@ module _ (l : List ℕ) (lent n : ℕ) where
     answer-is = rw (whole, le-leb (sectorsOf l) lent enough, low) (ap (λ (v : Went). toldOf v n) (made .answer) ∙ told-is n (recovering l))
 
     image-is : m ≡ run (take n (calling l lent)) l
+    unfolding calling
     image-is = rw (steps-called l lent whole enough low) (made .image)
 
     sectors-are : sectorsOf m ≡ sectorsOf l
@@ -102,42 +78,30 @@ module _ (l : List ℕ) (lent n : ℕ) where
     pub stopped-short : {r : Recovered} {x : Stage} → w ≡ Short x → r .answer ≡ toldOf w n → r .rows ≡ noRows → Recovers l lent n m r
     stopped-short {r} {x} e a s =
         record {
+          answer = answer-as (a ∙ answer-is);
           image = image-is;
-          answer = a ∙ answer-is;
           rows = rw (a, e) s;
-          few = rw s (omega arith);
-          fits = rw s (omega arith);
         }
 
-    pub ended-rows : {r : Recovered} {k : ℕ} → w ≡ Ended k → r .answer ≡ toldOf w n → RowsOf m (sectorsOf l) (r .rows) → Recovers l lent n m r
+    pub ended-rows : {r : Recovered} {k : ℕ} → w ≡ Ended k → r .answer ≡ toldOf w n → r .rows ≡ rowsOf m (sectorsOf l) → Recovers l lent n m r
     ended-rows {r} {k} e a s =
-        let c = s .count in
         record {
+          answer = answer-as (a ∙ answer-is);
           image = image-is;
-          answer = a ∙ answer-is;
           rows = rw (a, e, sectors-are) s;
-          few = rw c (whole-is l whole .1);
-          fits = rw c enough;
         }
 
 -- ---- the records stored
 
-stored-rows : (a : Answer) (m : List ℕ) (rows : Rows) (ys : List PageRecord) → rowsFor a m rows → filled (rows .count) (rows .rows) ys ≡ recordsAfter a m ys
+stored-rows : (k : ℕ) (m : List ℕ) (ys : List PageRecord) → filled (rowsFor k m .count) (rowsFor k m .rows) ys ≡ recordsAfter k m ys
 unfolding recordsAfter
-stored-rows (Done k) m rows ys h = let c = h .count in rw (c, h .rows)
-stored-rows NotSectors m rows ys h = rw h
-stored-rows FewRecords m rows ys h = rw h
-stored-rows ActiveStands m rows ys h = rw h
-stored-rows AllWritten m rows ys h = rw h
-stored-rows NoFreeSector m rows ys h = rw h
-stored-rows SequencesSpent m rows ys h = rw h
-stored-rows (Stopped x k) m rows ys h = rw h
-stored-rows NotReclaimable m rows ys h = rw h
+stored-rows zero m ys = ap (λ (rs : List PageRecord). rs ++ drop (sectorsOf m) ys) (rows-read m (sectorsOf m))
+stored-rows (suc k) m ys = refl
 
 pub stored : {l m : List ℕ} {ys zs : List PageRecord} {n : ℕ} {r : Recovered} → Recovers l (length ys) n m r → zs ≡ filled (r .rows .count) (r .rows .rows) ys → RecoverPromise l ys n m zs (r .answer)
 stored {l} {m} {ys} {zs} {n} {r} h e =
     record {
-      image = h .image;
       answer = h .answer;
-      records = e ∙ stored-rows (r .answer) m (r .rows) ys (h .rows);
+      image = h .image;
+      records = e ∙ ap (λ (s : Rows). filled (s .count) (s .rows) ys) (h .rows) ∙ stored-rows (numberOf (r .answer)) m ys;
     }

@@ -7,6 +7,7 @@ use native.Mathlib.Numerals.{add-one}
 use lib.ListN.{length, take}
 use lib.Seq.{length-take-le}
 use borrow.Author.Needs.{needs}
+use Rattle.recover.proofs.Fixed.{rows-fit}
 use Rattle.listing.specs.Text.{Put}
 use Rattle.listing.specs.Listing.{lines, head}
 use Rattle.listing.proofs.Putting.{put-nothing, put-both, put-as}
@@ -26,7 +27,7 @@ unfolding lines
 loop-holds c =
     let h = c .before .before in
     let made = h .before .before .before .before .before .recover-image in (
-      made .ensures .few,
+      rows-fit (made .ensures) .0,
       search needs,
       rows-enough _ _ (made .result) (made .ensures),
       put-nothing (h .put-head .last .0) (h .put-head .result) (h .put-head .ensures .fits),

@@ -6,7 +6,6 @@ use native.Mathlib.Omega.{arith}
 use Rattle.page.proofs.Tests.{not-true, not-false}
 use Rattle.table.specs.Table.{wholeSectors, pages, frees}
 use Rattle.reclaim.specs.Reclaim.{plan, planSteps}
-use Rattle.reclaim.specs.Promise.{planAnswer}
 use Rattle.reclaim.proofs.Planned.{Named, named}
 use Rattle.table.proofs.Whole.{whole-is}
 use Rattle.reclaim.proofs.Promised.{refused-whole, promised-refusal, promised}
@@ -58,7 +57,7 @@ same-length-3 : tie.Need-same-length-3
 same-length-3 c = ⊎-elim (λ x. search needs) (λ x. search needs) (c .before .before .match .came)
 
 returns-3 : tie.Need-returns-3
-unfolding planAnswer planSteps
+unfolding planSteps
 returns-3 c =
     let k = c .before .before in
     let p = k .before in
@@ -66,8 +65,8 @@ returns-3 c =
     let w = whole (p .before .before .before .before .before) in
     let told = rw (c .before .in-stage .ensures) at (c .told .ensures) in
     ⊎-elim
-    (λ x. promised (a .image .now) (a .allowance) _ (k .match .image) (k .match .ran) _ w (planned p ∙ x .1 .given .1) refl (rw (x .7, x .8) (x .4 .ensures)) told)
-    (λ x. promised (a .image .now) (a .allowance) _ (k .match .image) (k .match .ran) _ w (planned p ∙ x .1 .given .1) refl (rw (x .8, x .9) (x .5 .ensures)) told)
+    (λ x. promised (a .image .now) (a .allowance) _ (k .match .image) (k .match .ran) _ w (planned p ∙ x .1 .given .1) (λ q. q) (rw (x .7, x .8) (x .4 .ensures)) told)
+    (λ x. promised (a .image .now) (a .allowance) _ (k .match .image) (k .match .ran) _ w (planned p ∙ x .1 .given .1) (λ q. q) (rw (x .8, x .9) (x .5 .ensures)) told)
     (k .match .came)
 
 pub reclaim-spec : {M : Type 1} → statement M

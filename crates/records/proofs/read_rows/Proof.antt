@@ -1,15 +1,16 @@
 -- `records::read_rows` meets its contract: what is read so far is the records of the sectors passed. Assumes nothing.
-use mathlib.Core.Path.{_≡_, refl, sym, ap, _∙_, subst}
+use mathlib.Core.Path.{_≡_, refl, sym, ap, ap₂, _∙_}
+use mathlib.Core.List.{List}
 use Prim.Native.Nat.{ℕ, _+_, _-_, _≤_, _<_}
 use native.Mathlib.Omega.{arith}
-use native.Mathlib.Numerals.{add-one}
 use borrow.Author.Needs.{needs}
-use lib.ListN.{length, take, length-set}
-use lib.Seq.{take-suc-set}
+use lib.ListN.{length, set, length-set}
 use Rattle.flash.specs.Step.{sector}
 use Rattle.page.specs.Record.{recordOf}
-use Rattle.records.specs.Records.{recordsTo}
-use Rattle.records.proofs.Reading.{records-more}
+use Rattle.records.specs.declared.Rows.{Rows}
+use Rattle.page.specs.declared.«record».PageRecord.{PageRecord}
+use Rattle.records.specs.Records.{recordsTo, rowsOf}
+use Rattle.records.proofs.Reading.{row-read}
 use Rattle.flash.proofs.Sectors.{lent-sector}
 use Rattle.records.proofs.read_rows.Statement.{statement}
 use Rattle.records.proofs.read_rows.Tie as tie
@@ -19,7 +20,7 @@ use Rattle.page.proofs.page_record.Reads as page-record-reads
 use Rattle.records.proofs.blank_record.Reads as blank-record-reads
 
 abbrev Inv-loop : tie.InvT-loop
-Inv-loop t image sectors rows₀ n₀ rows n = (length rows ≡ 16) × (n ≤ sectors) × (take n rows ≡ recordsTo image n)
+Inv-loop t image sectors rows₀ n₀ rows n = (length rows ≡ 16) × (n ≤ sectors) × (rows ≡ rowsOf image n .rows)
 
 abbrev μ-loop : tie.MeasureT-loop
 μ-loop t image sectors rows₀ n₀ rows n = sectors - n
@@ -31,7 +32,7 @@ blank-record-requires c κs = search needs
 -- src/lib.rt:44:5
 loop-holds : tie.Need-loop-holds Inv-loop μ-loop
 unfolding recordsTo
-loop-holds c = (search needs, search needs, refl)
+loop-holds c = (search needs, search needs, rw (c .blank-record .ensures))
 
 -- src/lib.rt:45:17
 mul-a : tie.Need-mul-a Inv-loop μ-loop
@@ -80,11 +81,10 @@ loop-again c =
     let image = l .before .before .before .args .image .now in
     let n = l .loop .n in
     let i = l .loop .inv in
-    let room : n < length (l .loop .rows) = omega arith in
     let seen : c .page-record .result ≡ recordOf (sector n image) = c .page-record .ensures ∙ ap recordOf (lent-sector n image) in (
       simp length-set (i .0),
       omega arith,
-      rw (add-one n) (take-suc-set (l .loop .rows) n _ room ∙ rw (i .2, seen) (sym (records-more image n) ∙ ap (recordsTo image) (add-one n))),
+      ap₂ (λ (rows : List PageRecord) (r : PageRecord). set rows n r) (i .2) seen ∙ row-read image n (omega arith),
     )
 
 -- src/lib.rt:38:1
@@ -93,7 +93,7 @@ returns c =
     let l = c .before in
     let a = l .before .before .before .args in
     let e : l .loop .n ≡ a .sectors = omega arith in
-    record { rows = subst (λ (k : ℕ). take k (l .loop .rows) ≡ recordsTo (a .image .now) k) e (l .loop .inv .2); count = refl }
+    ap {B = Rows} (λ (rows : List PageRecord). record { rows = rows; count = a .sectors }) (l .loop .inv .2 ∙ ap (λ (k : ℕ). rowsOf (a .image .now) k .rows) e)
 
 pub read-rows-spec : {M : Type 1} → statement M
 read-rows-spec =

@@ -42,6 +42,7 @@ use denote.Exit.{yes}
 use Rattle.records.specs.Records.{filled}
 use Rattle.recover.specs.Promise.{Recovers}
 use Rattle.recover.proofs.Promised.{stored}
+use Rattle.recover.proofs.Fixed.{rows-fit}
 use Rattle.page.specs.declared.«record».PageRecord.{PageRecord}
 use Rattle.recover.specs.declared.Recovered.{Recovered}
 use Rattle.page.proofs.«record».PageRecord as P
@@ -187,7 +188,7 @@ module _ {M : Type 1} (𝓤 : URA M) (H : Heap 𝓤) (A : Atoms 𝓤) (W : Given
         qed W (Cored zs av tv) ∵ exec ! C Λ En mir′.t-5 (atRet En Post) $
         assigns ! (addr ! (from ! (fld ! refl (hop ! (look-in ! 20 (sub ! 0 refl (whole !))) (stop !))))) (from ! (stop !)) (init ! 6 refl (tt, tt)) $
         assigns ! (agg ! (and-then ! (load ! (from ! (stop !)) (look ! 6 refl)) (and-then ! (load ! (from ! (fld ! refl (stop !))) (look-in ! 20 (sub ! 1 refl (whole !)))) (no-more !)))) (from ! (stop !)) (init ! 4 refl (tt, (tt, (record { fits = room′ .0 }, tt)))) $
-        move ! (3 ∷ 2 ∷ []) $ use2 W (raw (Fill 𝓤 H A mem run .pre (to-fill r tv))) (goes-fill r tv ist (e .few, e .fits)) $
+        move ! (3 ∷ 2 ∷ []) $ use2 W (raw (Fill 𝓤 H A mem run .pre (to-fill r tv))) (goes-fill r tv ist (rows-fit e)) $
         calls-at ! fm (Fill 𝓤 H A mem run) known-fill (to-fill r tv) (and-then ! (load ! (from ! (stop !)) (look ! 3 refl)) (and-then ! (load ! (from ! (fld ! refl (stop !))) (look-in ! 15 (sub ! 1 refl (whole !)))) (no-more !))) (λ w.
         use1 W (later (some (λ (u : Unit {0}). (tok′ ⊛ ‵ (unit .own u (w ∷ []))) ⊛ raw (ensured 𝓤 H A fill′.ended (fill′.clauses 𝓤 H A mem run) (κ′, tt) (y, (r .rows, tt)) tt u)))) (id⊢ 𝓤 _) $ await ! tt $ pick ! (λ u.
         split ! $ move ! (1 ∷ []) $ use1 W (some (λ (ws : List PageRecord × (Unit {0} × Unit {0})). ‵ (lasts fill′.ended (κ′, tt) (y, (r .rows, tt)) ws) ⊛ raw (fact 𝓤 (ws .0 ≡ filled (r .rows .count) (r .rows .rows) ys)))) (id⊢ 𝓤 _) $ pick ! (λ ws.

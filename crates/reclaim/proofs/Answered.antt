@@ -1,0 +1,57 @@
+-- The number that the table gives is that of the plan. Assumes nothing.
+use mathlib.Core.Path.{_≡_, refl}
+use mathlib.Core.Bool.{Bool, true, false, cond}
+use mathlib.Core.Option.{Option, none, some}
+use mathlib.Core.List.{List, getLast?}
+use Prim.Native.Nat.{ℕ}
+use lib.Dec.{eqb, ltb}
+use lib.ListN.{length}
+use Rattle.answer.specs.declared.Answer.the-variants.{ActiveStands, SequencesSpent, NotReclaimable}
+use Rattle.answer.specs.Answer.{numberOf, refusal}
+use Rattle.answer.specs.Told.{numberIn}
+use Rattle.lists.specs.Lists.{some-of}
+use Rattle.table.specs.declared.Page.{Page}
+use Rattle.table.specs.Table.{wholeSectors, pages, frees, activePage}
+use Rattle.reclaim.specs.declared.plan.Plan.{Plan}
+use Rattle.reclaim.specs.declared.plan.Plan.the-variants.{Refuse, Clear, Move}
+use Rattle.reclaim.specs.Reclaim.{next, closed, chosen, sequencesSpent, planTo, planWith, plan, reclaiming}
+use Rattle.reclaim.specs.Promise.{reclaimTable}
+use Rattle.reclaim.proofs.Choice.{chosen-none, chosen-some, last-none, last-some}
+
+module _ (l : List ℕ) (n : ℕ) where
+  -- the number of a plan: of its refusal, or that of its steps
+  abbrev pub Numbered : Plan → Type 0
+  Numbered (Refuse a) = (refusal a ≡ true) × (numberOf a ≡ numberIn (reclaimTable l n))
+  Numbered (Clear s) = numberIn (reclaimTable l n) ≡ cond (ltb n (length (reclaiming l))) 7 0
+  Numbered (Move s t q) = numberIn (reclaimTable l n) ≡ cond (ltb n (length (reclaiming l))) 7 0
+
+  module _ (w : wholeSectors l ≡ true) (none-active : some-of activePage (pages l) ≡ false) where
+    numbered-to : (x : Page) → chosen (pages l) ≡ some x → closed (x .seen .state) ≡ true → eqb (x .seen .erased) 126 ≡ false → (o : Option ℕ) → getLast? (frees l) ≡ o → Numbered (planTo (pages l) (x .sector) o)
+    unfolding planTo reclaimTable numberIn
+    numbered-to x e k c none f = (refl, rw (w, none-active, chosen-some (pages l) e, e, k, c, last-none (frees l) f))
+    numbered-to x e k c (some t) f = go (sequencesSpent (pages l)) refl
+      where
+        go : (b : Bool) → sequencesSpent (pages l) ≡ b → Numbered (cond b (Refuse SequencesSpent) (Move (x .sector) t (next (pages l))))
+        go true s = (refl, rw (w, none-active, chosen-some (pages l) e, e, k, c, last-some (frees l) f, s))
+        go false s = rw (w, none-active, chosen-some (pages l) e, e, k, c, last-some (frees l) f, s)
+
+    numbered-with : (o : Option Page) → chosen (pages l) ≡ o → Numbered (planWith (pages l) (frees l) o)
+    unfolding planWith reclaimTable numberIn
+    numbered-with none e = (refl, rw (w, none-active, chosen-none (pages l) e))
+    numbered-with (some x) e = go (closed (x .seen .state)) refl
+      where
+        erased : closed (x .seen .state) ≡ true → (b : Bool) → eqb (x .seen .erased) 126 ≡ b → Numbered (cond b (Clear (x .sector)) (planTo (pages l) (x .sector) (getLast? (frees l))))
+        erased k true c = rw (w, none-active, chosen-some (pages l) e, e, k, c)
+        erased k false c = numbered-to x e k c (getLast? (frees l)) refl
+
+        go : (b : Bool) → closed (x .seen .state) ≡ b → Numbered (cond b (cond (eqb (x .seen .erased) 126) (Clear (x .sector)) (planTo (pages l) (x .sector) (getLast? (frees l)))) (Refuse NotReclaimable))
+        go true k = erased k (eqb (x .seen .erased) 126) refl
+        go false k = (refl, rw (w, none-active, chosen-some (pages l) e, e, k))
+
+  pub numbered : wholeSectors l ≡ true → Numbered (plan (pages l) (frees l))
+  unfolding plan reclaimTable numberIn
+  numbered w = go (some-of activePage (pages l)) refl
+    where
+      go : (b : Bool) → some-of activePage (pages l) ≡ b → Numbered (cond b (Refuse ActiveStands) (planWith (pages l) (frees l) (chosen (pages l))))
+      go true e = (refl, rw (w, e))
+      go false e = numbered-with w e (chosen (pages l)) refl
