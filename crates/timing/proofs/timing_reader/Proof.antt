@@ -1,13 +1,7 @@
-use mathlib.Core.Path.{_≡_, refl, sym, ap, _∙_}
-use Prim.Native.Nat.{ℕ, suc, _+_, _*_, _-_, _/_, _%_, _^_, _<_, _≤_}
-use native.Mathlib.Omega.{arith}
+use Prim.Native.Nat.{_-_, _≤_}
 use borrow.Author.Needs.{needs}
-use lib.ListN.{length, take, drop, getD}
 use Rattle.timing.proofs.timing_reader.Statement.{statement}
 use Rattle.timing.proofs.timing_reader.Tie as tie
-use Rattle.timing.proofs.timing_reader.Reads as reads
-use Rattle.timing.proofs.timing_reader.Lts as lts
-use Rattle.reader.proofs.read_from.Reads as read-from-reads
 
 abbrev Inv-loop : tie.InvT-loop
 Inv-loop sector count₀ at₀ count at = (count ≤ 126)
