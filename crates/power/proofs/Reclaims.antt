@@ -1,9 +1,9 @@
 -- Within the premises of demand 3 reclaim is not refused: no page is Active, one is below 126, it is Full, a sector is free, sequences are left.
 -- Assumes nothing.
-use mathlib.Core.Path.{_≡_, refl, sym, ap, _∙_}
+use mathlib.Core.Path.{_≡_, refl, ap, _∙_}
 use mathlib.Core.Logic.{inl}
 use mathlib.Core.Bool.{Bool, true, false, cond, not}
-use mathlib.Core.Option.{Option, none, some}
+use mathlib.Core.Option.{some}
 use mathlib.Core.List.{List, [], _∷_, getLast?}
 use Prim.Native.Nat.{ℕ, _≤_, _<_}
 use native.Mathlib.Omega.{arith}
@@ -11,24 +11,21 @@ use lib.Dec.{eqb, ltb}
 use lib.ListN.{length}
 use borrow.Author.Tests.{ltb-true, le-ltb}
 use Rattle.page.proofs.Tests.{both-first}
-use Rattle.page.specs.State.{stateOf}
 use Rattle.flash.specs.Step.{sector}
-use Rattle.lists.specs.Lists.{greatest, keep, some-of}
+use Rattle.lists.specs.Lists.{greatest, keep}
 use Rattle.lists.proofs.Member.{_∈_}
 use Rattle.lists.proofs.Search.{best-some, every-of, in-keep, keep-in, last-some, some-in, some-none}
 use Rattle.lists.proofs.Sums.{greatest-lt}
 use Rattle.table.specs.declared.Page.{Page}
-use Rattle.table.specs.Table.{activePage, frees, pages, sectorsOf, sequence, wholeSectors}
+use Rattle.table.specs.Table.{activePage, frees, pages, sequence, wholeSectors}
 use Rattle.table.proofs.Pages.{page-state, pages-in}
 use Rattle.answer.specs.declared.Stage.the-variants.{Reclaim}
-use Rattle.answer.specs.declared.Answer.{Answer}
-use Rattle.answer.specs.declared.Answer.the-variants.{SequencesSpent}
-use Rattle.answer.specs.Answer.{numberOf, refusal}
+use Rattle.answer.specs.Answer.{refusal}
 use Rattle.answer.specs.Staged.{tag}
 use Rattle.answer.proofs.Tagged.{made-no-refusal}
 use Rattle.recover.specs.Recover.{accepted, tooHigh}
 use Rattle.reclaim.specs.declared.plan.Plan.{Plan}
-use Rattle.reclaim.specs.declared.plan.Plan.the-variants.{Refuse, Clear, Move}
+use Rattle.reclaim.specs.declared.plan.Plan.the-variants.{Clear, Move}
 use Rattle.reclaim.specs.Reclaim.{candidate, chosen, closed, next, noFewerPoints, plan, planSteps, planTo, planWith}
 use Rattle.reclaim.specs.Promise.{planAnswer, reclaimAnswer}
 use Rattle.reclaim.proofs.Ends.{reclaim-ended}

@@ -1,5 +1,5 @@
 -- Reclaim ends: no list of its steps is longer than `mostSteps`, so a call that is allowed as many is never stopped. Assumes nothing.
-use mathlib.Core.Path.{_≡_, refl, sym, ap, _∙_}
+use mathlib.Core.Path.{_≡_, sym, ap, _∙_}
 use mathlib.Core.Bool.{Bool, true, false, cond}
 use mathlib.Core.Option.{Option, none, some}
 use mathlib.Core.List.{List, [], _∷_, getLast?}
@@ -15,7 +15,7 @@ use Rattle.table.specs.declared.Page.{Page}
 use Rattle.table.specs.Table.{wholeSectors, pages, frees, itemsIn, sequence, activePage}
 use Rattle.answer.specs.declared.Stage.the-variants.{Reclaim}
 use Rattle.answer.specs.declared.Answer.{Answer}
-use Rattle.answer.specs.declared.Answer.the-variants.{Done, NotSectors, ActiveStands, SequencesSpent, NotReclaimable}
+use Rattle.answer.specs.declared.Answer.the-variants.{NotSectors, ActiveStands, SequencesSpent, NotReclaimable}
 use Rattle.answer.specs.Answer.{numberOf, refusal}
 use Rattle.answer.specs.Staged.{tag, answerOf}
 use Rattle.answer.proofs.Tagged.{length-tag}

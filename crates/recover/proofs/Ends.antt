@@ -5,7 +5,7 @@ use mathlib.Core.List.{List, [], _++_}
 use Prim.Native.Nat.{ℕ, zero, suc, _+_, _*_, _≤_}
 use native.Mathlib.Omega.{arith}
 use lib.Dec.{leb}
-use lib.ListN.{length, take, length-append, length-take}
+use lib.ListN.{length, length-append, length-take}
 use Rattle.page.specs.declared.«record».PageRecord.{PageRecord}
 use Rattle.flash.specs.Step.{run}
 use Rattle.flash.proofs.Frame.{length-run}
@@ -17,7 +17,7 @@ use Rattle.answer.specs.declared.Stage.the-variants.{Order, Blobs, Duplicates}
 use Rattle.answer.specs.declared.Answer.{Answer}
 use Rattle.answer.specs.declared.Answer.the-variants.{Done, NotSectors, FewRecords, SequencesSpent}
 use Rattle.answer.specs.Answer.{numberOf, stepsOf, refusal}
-use Rattle.answer.specs.Staged.{Staged, tag, untag, answerOf}
+use Rattle.answer.specs.Staged.{tag, untag, answerOf}
 use Rattle.answer.proofs.Tagged.{length-tag, steps-told}
 use Rattle.answer.proofs.Made.{length-untag}
 use Rattle.answer.proofs.Ended.{fits-done, neither-ended}
@@ -36,9 +36,9 @@ use Rattle.duplicates.proofs.Lengths.{duplicates-most, marks-most}
 use Rattle.recover.specs.Recover.{lastStages, fromOrder, fromFinish, afterOrder, recovering, tooHigh, accepted, recovery}
 use Rattle.recover.specs.Promise.{wholeAnswer, recoverAnswer, mostSteps, RecoverPromise}
 
--- 3 and 4: a version or a group an item at most, and a mark a page
+-- 3 and 4: two passes over the versions, the items once more, and a mark a page
 abbrev mostLast : ℕ
-mostLast = suc mostFound * mostFound + suc mostFound * mostFound + (mostFound + mostFound * mostFound) * mostFound + 16
+mostLast = 2 * (mostFound + mostFound) + mostFound + 16
 
 last-most : (ps : List Page) (l : List ℕ) → length ps ≤ 16 → length (lastStages ps l) ≤ mostLast
 unfolding lastStages duplicateStage
@@ -48,7 +48,7 @@ last-most ps l h =
     let d = duplicateSteps (found ps m) in
     let k = lastMarks ps (run d m) in
     omega
-    (arith, h, blobs-most (found ps l) mostFound mostFound (found-most ps l h) (erased-most ps l h), duplicates-most (found ps m) mostFound mostFound (found-most ps m h) (erased-most ps m h), marks-most ps (run d m), length-append d k, length-tag Blobs b, length-tag Duplicates (d ++ k), length-append (tag Blobs b) (tag Duplicates (d ++ k)))
+    (arith, h, blobs-most (found ps l), found-most ps l h, erased-most ps l h, duplicates-most (found ps m), erased-most ps m h, marks-most ps (run d m), length-append d k, length-tag Blobs b, length-tag Duplicates (d ++ k), length-append (tag Blobs b) (tag Duplicates (d ++ k)))
 
 module _ (l : List ℕ) (few : sectorsOf l ≤ 16) where
   ordered-few : length (ordered (pages l)) ≤ 16
