@@ -1,8 +1,7 @@
 -- How many steps stage 2 takes: a round for each Freeing page. Assumes nothing.
-use mathlib.Core.Bool.{Bool, true, false}
 use mathlib.Core.Option.{Option, none, some}
-use mathlib.Core.List.{List, [], _∷_, _++_}
-use Prim.Native.Nat.{ℕ, zero, suc, _+_, _*_, _≤_}
+use mathlib.Core.List.{List, _++_}
+use Prim.Native.Nat.{ℕ, zero, suc, _*_, _≤_}
 use native.Mathlib.Omega.{arith}
 use lib.ListN.{length, length-append}
 use Rattle.entry.specs.States.{one}
@@ -10,7 +9,7 @@ use Rattle.flash.specs.Step.{run}
 use Rattle.answer.specs.declared.Stage.the-variants.{Finish}
 use Rattle.answer.specs.Staged.{tag}
 use Rattle.answer.proofs.Tagged.{length-tag}
-use Rattle.lists.specs.Lists.{firstOf, sumOf}
+use Rattle.lists.specs.Lists.{firstOf}
 use Rattle.table.specs.declared.Page.{Page}
 use Rattle.table.specs.Table.{freeingPage}
 use Rattle.table.proofs.Places.{one-le, length-sum}

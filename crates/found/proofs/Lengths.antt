@@ -1,8 +1,8 @@
 -- How many items are found, and how many steps erase them all: 126 a page at most, as a page has 126 entries. Assumes nothing.
-use mathlib.Core.Path.{_≡_, refl, sym, _∙_}
+use mathlib.Core.Path.{_≡_, refl}
 use mathlib.Core.Bool.{Bool, true, false, cond}
-use mathlib.Core.List.{List, [], _∷_, _++_, map, flatMap}
-use Prim.Native.Nat.{ℕ, zero, suc, _+_, _-_, _*_, _≤_}
+use mathlib.Core.List.{List, _∷_}
+use Prim.Native.Nat.{ℕ, zero, suc, _+_, _-_, _≤_}
 use native.Mathlib.Omega.{arith}
 use lib.ListN.{length, length-map}
 use Rattle.entry.specs.Fields.{entryAt, spanOf}
@@ -11,13 +11,12 @@ use Rattle.page.proofs.Walking.{item-span, raw-span}
 use Rattle.flash.specs.Step.{sector}
 use Rattle.item.specs.Erase.{erasing}
 use Rattle.item.proofs.Lengths.{erasing-most}
-use Rattle.lists.specs.Lists.{keep, sumOf}
-use Rattle.lists.proofs.Sums.{sum-keep-le}
+use Rattle.lists.specs.Lists.{sumOf}
 use Rattle.lists.proofs.Maps.{sum-flatMap, sum-map}
 use Rattle.lists.proofs.Lengths.{length-flat, flat-most, sum-most}
 use Rattle.table.specs.declared.Page.{Page}
 use Rattle.table.specs.Table.{itemsIn}
-use Rattle.found.specs.Found.{Found, foundOn, found, chunks, chunkOf, eraseAll}
+use Rattle.found.specs.Found.{Found, foundOn, found, eraseAll}
 
 -- the steps that erase an item
 abbrev pub stepsFor : Found → ℕ
@@ -26,10 +25,6 @@ stepsFor x = length (erasing (x .sector) (x .entry) (spanOf (x .raw)))
 pub length-erased : (xs : List Found) → length (eraseAll xs) ≡ sumOf stepsFor xs
 unfolding eraseAll
 length-erased xs = length-flat (λ (x : Found). erasing (x .sector) (x .entry) (spanOf (x .raw))) xs
-
--- of some of the items, no more than of all
-pub erased-kept : (p : Found → Bool) (xs : List Found) → length (eraseAll (keep p xs)) ≤ length (eraseAll xs)
-erased-kept p xs = omega (arith, length-erased xs, length-erased (keep p xs), sum-keep-le p stepsFor xs)
 
 -- a walk from entry i on
 walk-most : (t : List ℕ) (n i : ℕ) → length (walk t n i) ≤ n

@@ -8,7 +8,7 @@ use lib.Dec.{eqb}
 use lib.ListN.{length, length-append}
 use Rattle.entry.specs.Fields.{spanOf}
 use Rattle.page.specs.State.{allOnes}
-use Rattle.flash.specs.Step.{Step, erase, sector}
+use Rattle.flash.specs.Step.{erase, sector}
 use Rattle.flash.specs.Words.{words}
 use Rattle.flash.proofs.Words.{length-words}
 use Rattle.item.proofs.Spans.{length-down}

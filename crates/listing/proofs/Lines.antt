@@ -17,7 +17,7 @@ use Rattle.records.specs.Records.{noRows}
 use Rattle.records.proofs.Reading.{rows-read, rows-there}
 use Rattle.recover.specs.declared.Recovered.{Recovered}
 use Rattle.recover.specs.Promise.{rowsFor, Recovers}
-use Rattle.recover.proofs.Ends.{answer-unstopped}
+use Rattle.recover.proofs.Ends.{unstopped}
 use Rattle.recover.proofs.Fixed.{recovers-answer}
 use Rattle.listing.specs.Text.{space, newline, decimal}
 use Rattle.listing.specs.Listing.{stateName, pageText, line, lines, head, linesFor, lent, allowance, answered, listing}
@@ -72,14 +72,11 @@ module _ (m : List ℕ) (t : Rows) where
   handed-out NotReclaimable u e = none e
 
 module _ (l m : List ℕ) (r : Recovered) (p : Recovers l lent allowance m r) where
-  unstopped : numberOf (r .answer) ≡ 7 → ⊥
-  unstopped e = answer-unstopped l lent allowance (omega arith) (sym (ap numberOf (recovers-answer p)) ∙ e)
-
   pub rows-enough : r .rows .count ≤ length (r .rows .rows)
-  rows-enough = handed-out m (r .rows) (r .answer) unstopped (p .rows) .0
+  rows-enough = handed-out m (r .rows) (r .answer) (unstopped (p .answer) (omega arith)) (p .rows) .0
 
   pub listing-is : (bytes : ℕ) → head (bytes / 4096) (r .answer) ++ lines 0 (take (r .rows .count) (r .rows .rows)) ≡ listing l bytes
   unfolding listing
   listing-is bytes =
-      ap (λ (s : List ℕ). head (bytes / 4096) (r .answer) ++ s) (handed-out m (r .rows) (r .answer) unstopped (p .rows) .1) ∙
+      ap (λ (s : List ℕ). head (bytes / 4096) (r .answer) ++ s) (handed-out m (r .rows) (r .answer) (unstopped (p .answer) (omega arith)) (p .rows) .1) ∙
       ap (λ (a : Answer). head (bytes / 4096) a ++ linesFor a m) (recovers-answer p) ∙ ap (λ (i : List ℕ). head (bytes / 4096) (answered l) ++ linesFor (answered l) i) (p .image)

@@ -1,4 +1,4 @@
--- The longest listing: a head of 51 bytes and 16 lines of 67. Assumes nothing.
+-- The longest listing: a head of 46 bytes and 16 lines of 67. Assumes nothing.
 use mathlib.Core.Path.{_≡_, refl, ap, subst}
 use mathlib.Core.Bool.{Bool, true, false, cond}
 use mathlib.Core.List.{List, [], _∷_, _++_}
@@ -28,6 +28,7 @@ use Rattle.answer.specs.Answer.{numberOf, stepsOf, refusal}
 use Rattle.lists.proofs.Member.{true≢false}
 use Rattle.records.specs.Records.{recordsTo}
 use Rattle.recover.specs.Promise.{mostSteps, recoverAnswer, calling}
+use Rattle.recover.proofs.Answered.{recover-told}
 use Rattle.recover.proofs.Ends.{steps-most}
 use Rattle.io.specs.Digits.{glyph}
 use Rattle.listing.specs.Text.{word, space, newline, spelled, decimal, field}
@@ -69,13 +70,13 @@ number-most SequencesSpent = omega arith
 number-most (Stopped s n) = omega arith
 number-most NotReclaimable = omega arith
 
-head-most : (sectors : ℕ) (a : Answer) → sectors < 10 ^ 16 → stepsOf a ≤ mostSteps → length (head sectors a) ≤ 51
+head-most : (sectors : ℕ) (a : Answer) → sectors < 10 ^ 16 → stepsOf a ≤ mostSteps → length (head sectors a) ≤ 46
 unfolding head
 head-most sectors a h k =
     let result = field (word "result") (numberOf a) in
     let steps = field (word "steps") (stepsOf a) in
     omega
-    (arith, decimal-most sectors 15 h, decimal-most (numberOf a) 0 (number-most a), decimal-most (stepsOf a) 9 (omega (arith, k)), length-field (word "result") (numberOf a), length-field (word "steps") (stepsOf a), length-append (decimal sectors) (result ++ (steps ++ newline)), length-append result (steps ++ newline), length-append steps newline)
+    (arith, decimal-most sectors 15 h, decimal-most (numberOf a) 0 (number-most a), decimal-most (stepsOf a) 4 (omega (arith, k)), length-field (word "result") (numberOf a), length-field (word "steps") (stepsOf a), length-append (decimal sectors) (result ++ (steps ++ newline)), length-append result (steps ++ newline), length-append steps newline)
 
 -- ---- a line
 
@@ -168,4 +169,4 @@ pub listing-fits : (l : List ℕ) (bytes : ℕ) → Small l → bytes < 2 ^ 64 �
 unfolding listing
 listing-fits l bytes h k =
     omega
-    (arith, length-append (head (bytes / 4096) (answered l)) (linesFor (answered l) (imageAfter l)), head-most (bytes / 4096) (answered l) (omega (arith, k)) (steps-most l lent allowance), for-most l h)
+    (arith, length-append (head (bytes / 4096) (answered l)) (linesFor (answered l) (imageAfter l)), head-most (bytes / 4096) (answered l) (omega (arith, k)) (steps-most (recover-told l lent allowance)), for-most l h)

@@ -73,7 +73,7 @@ listing l bytes = head (bytes / 4096) (answered l) ++ linesFor (answered l) (ima
 
 -- no listing is longer, of bytes and of a length that 64 bits hold: lent as much, the whole of it is put. Both programs lend 2,048
 abbrev pub room : ℕ
-room = 1_123
+room = 1_118
 
 -- of the image l, which became m, the listing went into the bytes xs, which became ys: the first r of them, and what has no room is left out
 pub record Listed (l : List ℕ) (bytes : ℕ) (m xs ys : List ℕ) (r : ℕ) : Type 0 where

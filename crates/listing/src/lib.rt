@@ -73,7 +73,7 @@ fn put_head(out: &mut [u8], sectors: u64, answer: Answer) -> usize
     put_byte(out, steps, b'\n')
 }
 
-// Recovers the image with an allowance that no list of steps reaches and puts its listing into `out`: at most 1,200 bytes. Answers how many. `bytes` is the
+// Recovers the image with an allowance that no list of steps reaches and puts its listing into `out`: at most 1,118 bytes. Answers how many. `bytes` is the
 // image's length, of which `image` may be only a part where it is longer than any image that is recovered.
 pub fn list_image(image: &mut [u8], bytes: u64, out: &mut [u8]) -> usize
     ensures { λ r. ⌜ Counts r (now (out .exit)) ⌝ }

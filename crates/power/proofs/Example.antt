@@ -1,7 +1,7 @@
 -- Document 01's example is a store of demand 3. Each part of it is computed once and cited. Assumes nothing.
 use mathlib.Core.Path.{_≡_, refl, _∙_, ap}
-use mathlib.Core.Bool.{Bool, true, false, _&&_, _||_, cond}
-use mathlib.Core.List.{List, [], _∷_, _++_, flatMap}
+use mathlib.Core.Bool.{Bool, true, false, _&&_, cond}
+use mathlib.Core.List.{List, [], _∷_, flatMap}
 use Prim.Native.Nat.{ℕ, zero, suc, _+_, _*_, _≤_, _<_}
 use native.Mathlib.Omega.{arith}
 use lib.Dec.{eqb, ltb}
@@ -30,7 +30,7 @@ use Rattle.blobs.specs.Blobs.{blobSteps}
 use Rattle.duplicates.specs.Duplicates.{outdated, onceEach, groups, duplicateSteps, lastMarks, duplicateStage}
 use Rattle.recover.specs.Recover.{lastStages, afterOrder, recovering, tooHigh, accepted}
 use Rattle.reclaim.specs.declared.plan.Plan.the-variants.{Move}
-use Rattle.reclaim.specs.Reclaim.{points, chosen, planTo, planWith, plan, planSteps, reclaiming}
+use Rattle.reclaim.specs.Reclaim.{points, chosen, planTo, planWith, plan, reclaiming}
 use Rattle.power.specs.Demand3.{Premises, Store, stored, total}
 use Rattle.power.specs.Example.{first, second, third, page, image, Example}
 use Rattle.power.proofs.Same.{same-eq, same-refl}

@@ -1,5 +1,5 @@
 -- Recovery ends: no list of its steps is longer than `mostSteps`, so a call that is allowed as many is never stopped. Assumes nothing.
-use mathlib.Core.Path.{_≡_, refl, sym, ap, _∙_}
+use mathlib.Core.Path.{_≡_, refl, _∙_}
 use mathlib.Core.Bool.{Bool, true, false, cond, not, _&&_}
 use mathlib.Core.List.{List, [], _++_}
 use Prim.Native.Nat.{ℕ, zero, suc, _+_, _*_, _≤_}
@@ -15,12 +15,12 @@ use Rattle.table.proofs.Scanned.{pages-placed}
 use Rattle.table.proofs.Whole.{whole-is}
 use Rattle.answer.specs.declared.Stage.the-variants.{Order, Blobs, Duplicates}
 use Rattle.answer.specs.declared.Answer.{Answer}
-use Rattle.answer.specs.declared.Answer.the-variants.{Done, NotSectors, FewRecords, SequencesSpent}
 use Rattle.answer.specs.Answer.{numberOf, stepsOf, refusal}
-use Rattle.answer.specs.Staged.{tag, untag, answerOf}
-use Rattle.answer.proofs.Tagged.{length-tag, steps-told}
+use Rattle.answer.specs.Staged.{tag, untag}
+use Rattle.answer.specs.Told.{stepsMade, Told}
+use Rattle.answer.proofs.Tagged.{length-tag}
 use Rattle.answer.proofs.Made.{length-untag}
-use Rattle.answer.proofs.Ended.{fits-done, neither-ended}
+use Rattle.answer.proofs.Ended.{neither-ended}
 use Rattle.order.specs.Order.{ordering, ordered}
 use Rattle.order.proofs.Kept.{ordered-placed}
 use Rattle.order.proofs.Lengths.{ordering-most}
@@ -34,12 +34,12 @@ use Rattle.blobs.proofs.Lengths.{blobs-most}
 use Rattle.duplicates.specs.Duplicates.{duplicateSteps, lastMarks, duplicateStage}
 use Rattle.duplicates.proofs.Lengths.{duplicates-most, marks-most}
 use Rattle.recover.specs.Recover.{lastStages, fromOrder, fromFinish, afterOrder, recovering, tooHigh, accepted, recovery}
-use Rattle.recover.specs.Promise.{wholeAnswer, recoverAnswer, mostSteps, RecoverPromise}
-use Rattle.recover.proofs.Fixed.{recover-answer}
+use Rattle.recover.specs.Promise.{called, recoverTable, mostSteps, RecoverPromise}
+use Rattle.recover.proofs.Numbers.{number-7}
 
--- 3 and 4: a version or a group an item at most, and a mark a page
+-- 3 and 4: two passes over the versions, the items once more, and a mark a page
 abbrev mostLast : ℕ
-mostLast = suc mostFound * mostFound + suc mostFound * mostFound + (mostFound + mostFound * mostFound) * mostFound + 16
+mostLast = 2 * (mostFound + mostFound) + mostFound + 16
 
 last-most : (ps : List Page) (l : List ℕ) → length ps ≤ 16 → length (lastStages ps l) ≤ mostLast
 unfolding lastStages duplicateStage
@@ -49,7 +49,7 @@ last-most ps l h =
     let d = duplicateSteps (found ps m) in
     let k = lastMarks ps (run d m) in
     omega
-    (arith, h, blobs-most (found ps l) mostFound mostFound (found-most ps l h) (erased-most ps l h), duplicates-most (found ps m) mostFound mostFound (found-most ps m h) (erased-most ps m h), marks-most ps (run d m), length-append d k, length-tag Blobs b, length-tag Duplicates (d ++ k), length-append (tag Blobs b) (tag Duplicates (d ++ k)))
+    (arith, h, blobs-most (found ps l), found-most ps l h, erased-most ps l h, duplicates-most (found ps m), erased-most ps m h, marks-most ps (run d m), length-append d k, length-tag Blobs b, length-tag Duplicates (d ++ k), length-append (tag Blobs b) (tag Duplicates (d ++ k)))
 
 module _ (l : List ℕ) (few : sectorsOf l ≤ 16) where
   ordered-few : length (ordered (pages l)) ≤ 16
@@ -96,35 +96,27 @@ recovery-ends l = rw (length-untag (recovery l)) (go (wholeSectors l) refl (not 
     go true w false = omega arith
     go false w c = omega arith
 
--- nor does a call tell of more
-pub steps-most : (l : List ℕ) (lent n : ℕ) → stepsOf (recoverAnswer l lent n) ≤ mostSteps
-unfolding recoverAnswer wholeAnswer
-steps-most l lent n = go (wholeSectors l) refl (leb (sectorsOf l) lent) (tooHigh (pages l))
+-- a call to which few records are lent makes none
+called-most : (l : List ℕ) (lent : ℕ) → length (called l lent) ≤ mostSteps
+unfolding called
+called-most l lent = go (leb (sectorsOf l) lent)
   where
-    go : (b : Bool) → wholeSectors l ≡ b → (c d : Bool) → stepsOf (cond b (cond c (cond d SequencesSpent (answerOf n (recovering l))) FewRecords) NotSectors) ≤ mostSteps
-    go false w c d = omega arith
-    go true w false d = omega arith
-    go true w true true = omega arith
-    go true w true false = omega (arith, steps-told n (recovering l), length-take n (recovering l), recovering-most l (whole-is l w .1))
+    go : (b : Bool) → length (cond b (recovery l) []) ≤ mostSteps
+    go true = omega (arith, length-untag (recovery l), recovery-ends l)
+    go false = omega arith
 
--- so a call that is allowed as many is refused or ends
-module _ (l : List ℕ) (lent n : ℕ) (allowed : mostSteps ≤ n) where
-  ended : wholeSectors l ≡ true → answerOf n (recovering l) ≡ Done (length (recovering l))
-  ended w = fits-done n (recovering l) (omega (arith, recovering-most l (whole-is l w .1)))
+-- so no call tells of more, and one that is allowed as many is refused or ends
+module _ {l : List ℕ} {lent n : ℕ} {r : Answer} (t : Told (recoverTable l lent n) n (called l lent) r) where
+  pub steps-most : stepsOf r ≤ mostSteps
+  unfolding stepsMade
+  steps-most = omega (arith, t .steps, length-take n (called l lent), called-most l lent)
 
-  pub answer-unstopped : numberOf (recoverAnswer l lent n) ≡ 7 → ⊥
-  unfolding recoverAnswer wholeAnswer
-  answer-unstopped = go (wholeSectors l) refl (leb (sectorsOf l) lent) (tooHigh (pages l))
-    where
-      go : (b : Bool) → wholeSectors l ≡ b → (c d : Bool) → numberOf (cond b (cond c (cond d SequencesSpent (answerOf n (recovering l))) FewRecords) NotSectors) ≡ 7 → ⊥
-      go false w c d e = omega arith
-      go true w false d e = omega arith
-      go true w true true e = omega arith
-      go true w true false e = let z : _≡_ {A = ℕ} 0 7 = sym (ap numberOf (ended w)) ∙ e in omega arith
+  pub unstopped : mostSteps ≤ n → numberOf r ≡ 7 → ⊥
+  unstopped allowed e = omega (arith, allowed, number-7 l lent n t .0 e .1, called-most l lent)
 
 module _ {l m : List ℕ} {ys zs : List PageRecord} {n : ℕ} {r : Answer} (p : RecoverPromise l ys n m zs r) (allowed : mostSteps ≤ n) where
   pub recover-unstopped : numberOf r ≡ 7 → ⊥
-  recover-unstopped e = answer-unstopped l (length ys) n allowed (sym (ap numberOf (recover-answer p)) ∙ e)
+  recover-unstopped = unstopped (p .answer) allowed
 
   pub recover-ended : refusal r ≡ false → numberOf r ≡ 0
   recover-ended f = neither-ended r f recover-unstopped

@@ -43,7 +43,7 @@ recordsAfter (suc k) m ys = ys
 
 -- no image has a longer list of steps: a call that is allowed as many is never stopped
 abbrev pub mostSteps : ℕ
-mostSteps = 8_205_757_280
+mostSteps = 30_464
 
 pub record RecoverPromise (l : List ℕ) (ys : List PageRecord) (n : ℕ) (m : List ℕ) (zs : List PageRecord) (r : Answer) : Type 0 where
   pub answer : Told (recoverTable l (length ys) n) n (called l (length ys)) r

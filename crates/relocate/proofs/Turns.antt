@@ -7,7 +7,7 @@ use native.Mathlib.Omega.{arith}
 use Rattle.word.specs.Number.{part}
 use Rattle.word.proofs.Bytes.{part-part}
 use Rattle.entry.specs.Fields.{entryAt, spanOf}
-use Rattle.page.specs.Walk.{isItem, laidAt, walk}
+use Rattle.page.specs.Walk.{isItem, walk}
 use Rattle.page.proofs.Walking.{item-span, raw-span, walk-item, walk-skip, walk-past}
 use Rattle.flash.specs.Step.{sector}
 use Rattle.item.specs.Copy.{copying}
