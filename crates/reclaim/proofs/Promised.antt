@@ -15,8 +15,8 @@ use Rattle.answer.specs.declared.Answer.the-variants.{NotSectors}
 use Rattle.answer.specs.Answer.{refusal, stepsOf}
 use Rattle.answer.specs.declared.Went.{Went}
 use Rattle.answer.specs.Went.{inStage, toldOf}
-use Rattle.answer.specs.Staged.{Staged, tag, answerOf}
-use Rattle.answer.specs.Told.{numberIn, Told}
+use Rattle.answer.specs.Staged.{tag, answerOf}
+use Rattle.answer.specs.Told.{numberIn}
 use Rattle.answer.proofs.Tagged.{length-tag}
 use Rattle.answer.proofs.Made.{untag-only, made-tag, told-is}
 use Rattle.answer.proofs.Values.{told-same, steps-listed, idle, no-steps, refusal-told, no-refusal, answer-told}
