@@ -5,18 +5,18 @@ use mathlib.Core.Logic.{_⊎_, inl, inr}
 use Prim.Native.Nat.{ℕ, zero, suc, _+_, _-_, _≤_, _<_}
 use native.Mathlib.Omega.{arith}
 use lib.ListN.{length, take, length-map, length-append}
-use lib.Seq.{take-all, take-nil, length-take-le}
+use lib.Seq.{take-all, length-take-le}
 use Rattle.flash.specs.declared.Ran.{Ran}
 use Rattle.flash.specs.declared.Ran.the-variants.{Done, Stopped}
 use Rattle.flash.specs.Step.{Step, run}
-use Rattle.flash.specs.Did.{Did, ran}
+use Rattle.flash.specs.Did.{Did}
 use Rattle.flash.proofs.Answer.{ran-le, ran-gt, ran-done, ran-stopped}
 use Rattle.flash.proofs.Laws.{did-then, did-stop, did-none, did-all}
 use Rattle.flash.proofs.Order.{le-or-gt}
 use Rattle.answer.specs.declared.Stage.{Stage}
 use Rattle.answer.specs.declared.Went.{Went}
 use Rattle.answer.specs.declared.Went.the-variants.{Ended, Short}
-use Rattle.answer.specs.declared.Answer.the-variants.{Done as DoneAll, Stopped as StoppedAt}
+use Rattle.answer.specs.declared.Answer.the-variants.{Done as DoneAll}
 use Rattle.answer.specs.Answer.{numberOf}
 use Rattle.answer.specs.Staged.{Staged, tag, untag, left, stoppedAt, answerOf}
 use Rattle.answer.specs.Went.{wentTo, went, Made, Making, inStage, toldOf}

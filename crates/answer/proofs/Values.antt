@@ -18,9 +18,9 @@ use Rattle.answer.specs.declared.Answer.{Answer}
 use Rattle.answer.specs.declared.Answer.the-variants.{Done, NotSectors, FewRecords, ActiveStands, AllWritten, NoFreeSector, SequencesSpent, Stopped, NotReclaimable}
 use Rattle.answer.specs.Answer.{numberOf, stepsOf, stageOf, refusal}
 use Rattle.answer.specs.Staged.{Staged, untag, left, stoppedAt, answerOf}
-use Rattle.answer.specs.Went.{went, toldOf}
+use Rattle.answer.specs.Went.{toldOf}
 use Rattle.answer.specs.Told.{Line, numberIn, stepsMade, firstStage, Told}
-use Rattle.answer.proofs.Tagged.{left-none}
+use Rattle.answer.proofs.Tagged.{left-none, steps-told}
 use Rattle.answer.proofs.Made.{untag-take, went-short, told-is}
 
 -- ---- by number, steps and stage
@@ -118,13 +118,6 @@ module _ (n : ℕ) (ts : List Staged) where
       go [] = refl
       go (u ∷ us) = refl
 
-  steps-told : stepsOf (answerOf n ts) ≡ stepsMade n ts
-  unfolding answerOf stepsMade
-  steps-told = go (left n ts)
-    where
-      go : (us : List Staged) → stepsOf (stoppedAt (length (take n ts)) us) ≡ length (take n ts)
-      go [] = refl
-      go (u ∷ us) = refl
-
   pub answer-told : {xs : List Line} → numberIn xs ≡ cond (ltb n (length ts)) 7 0 → Told xs n ts (answerOf n ts)
-  answer-told e = record { number = number-told ∙ sym e; steps = steps-told; stage = stage-told }
+  unfolding stepsMade
+  answer-told e = record { number = number-told ∙ sym e; steps = steps-told n ts; stage = stage-told }

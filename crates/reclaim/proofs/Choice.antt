@@ -1,6 +1,6 @@
 -- A page is chosen where one is below 126 Written, and a free sector is taken where there is one. Assumes nothing.
 use mathlib.Core.Path.{_≡_, refl}
-use mathlib.Core.Bool.{Bool, true, false}
+use mathlib.Core.Bool.{true, false}
 use mathlib.Core.Option.{none, some}
 use mathlib.Core.List.{List, [], _∷_, getLast?}
 use Prim.Native.Nat.{ℕ}

@@ -2,16 +2,15 @@
 -- nothing.
 use mathlib.Core.Path.{_≡_}
 use mathlib.Core.Logic.{_↔_}
-use mathlib.Core.Bool.{true, false, not, _&&_}
+use mathlib.Core.Bool.{true, false}
 use mathlib.Core.List.{List, []}
 use Prim.Native.Nat.{ℕ, _≤_, _<_}
-use lib.Dec.{ltb}
 use lib.ListN.{length}
 use borrow.Author.Tests.{ltb-true, ltb-false, lt-ltb, le-ltb}
 use Rattle.page.proofs.Tests.{not-true, both-first, both-second, both-is}
 use Rattle.answer.specs.declared.Answer.{Answer}
 use Rattle.answer.specs.Answer.{numberOf}
-use Rattle.answer.specs.Told.{before, conditionOf, NoneHolds, Told}
+use Rattle.answer.specs.Told.{before, conditionOf, NoneHolds}
 use Rattle.answer.proofs.Numbers.{absent, once, positive, given, given-last, not-given}
 use Rattle.lists.specs.Lists.{some-of, greatest}
 use Rattle.table.specs.Table.{wholeSectors, pages, frees, sequence, activePage}
@@ -24,27 +23,27 @@ abbrev pub Passed : List ℕ → ℕ → ℕ → Type 0
 Passed l n k = NoneHolds (before k (reclaimTable l n))
 
 module _ {l : List ℕ} {n : ℕ} {m : List ℕ} {r : Answer} (p : ReclaimPromise l n m r) where
-  -- "image not 2 to 16 whole sectors"
+  -- 1 exactly when the image is not 2 to 16 whole sectors
   pub number-1 : (numberOf r ≡ 1) ↔ (wholeSectors l ≡ false)
   unfolding reclaimTable before conditionOf once absent
   number-1 = let g = given (p .answer) 1 tt in (λ e. not-true (wholeSectors l) (g .0 e .1), λ e. g .1 (tt, rw e))
 
-  -- "an Active page stands"
+  -- 3 exactly when an Active page stands
   pub number-3 : (numberOf r ≡ 3) ↔ (Passed l n 3 × (some-of activePage (pages l) ≡ true))
   unfolding reclaimTable before conditionOf once absent
   number-3 = given (p .answer) 3 tt
 
-  -- "no page below 126 Written"
+  -- 4 exactly when no page is below 126 Written
   pub number-4 : (numberOf r ≡ 4) ↔ (Passed l n 4 × (some-of candidate (pages l) ≡ false))
   unfolding reclaimTable before conditionOf once absent
   number-4 = let g = given (p .answer) 4 tt in (λ e. let h = g .0 e in (h .0, not-true (some-of candidate (pages l)) (h .1)), λ e. g .1 (e .0, rw (e .1)))
 
-  -- "chosen page neither Full nor Freeing"
+  -- 8 exactly when the page chosen is neither Full nor Freeing
   pub number-8 : (numberOf r ≡ 8) ↔ (Passed l n 8 × (notReclaimable (pages l) ≡ true))
   unfolding reclaimTable before conditionOf once absent
   number-8 = given (p .answer) 8 tt
 
-  -- "a copy is needed, no sector free"
+  -- 5 exactly when a copy is needed and no sector is free
   pub number-5 : (numberOf r ≡ 5) ↔ (Passed l n 5 × (copyNeeded (pages l) ≡ true) × (frees l ≡ []))
   unfolding reclaimTable before conditionOf once absent
   number-5 =
@@ -55,7 +54,7 @@ module _ {l : List ℕ} {n : ℕ} {m : List ℕ} {r : Answer} (p : ReclaimPromis
         λ e. g .1 (e .0, both-is c f (e .1) (rw (e .2))),
       )
 
-  -- "a copy is needed, greatest sequence above 0xFFFFFFFD"
+  -- 6 exactly when a copy is needed and the greatest sequence is above 0xFFFFFFFD
   pub number-6 : (numberOf r ≡ 6) ↔ (Passed l n 6 × (copyNeeded (pages l) ≡ true) × (0xFFFFFFFD < greatest sequence (pages l)))
   unfolding reclaimTable before conditionOf once absent
   number-6 =
@@ -66,12 +65,12 @@ module _ {l : List ℕ} {n : ℕ} {m : List ℕ} {r : Answer} (p : ReclaimPromis
         λ e. g .1 (e .0, both-is c s (e .1) (lt-ltb 0xFFFFFFFD (greatest sequence (pages l)) (e .2))),
       )
 
-  -- "allowance used up before the end"
+  -- 7 exactly when the allowance is used up before the end
   pub number-7 : (numberOf r ≡ 7) ↔ (Passed l n 7 × (n < length (reclaiming l)))
   unfolding reclaimTable before conditionOf once absent
   number-7 = let g = given (p .answer) 7 tt in (λ e. let h = g .0 e in (h .0, ltb-true n (length (reclaiming l)) (h .1)), λ e. g .1 (e .0, lt-ltb n (length (reclaiming l)) (e .1)))
 
-  -- "the list of steps ended"
+  -- 0 exactly when the list of steps ended
   pub number-0 : (numberOf r ≡ 0) ↔ (Passed l n 7 × (length (reclaiming l) ≤ n))
   unfolding reclaimTable before positive
   number-0 = let g = given-last (p .answer) tt in (
@@ -79,7 +78,7 @@ module _ {l : List ℕ} {n : ℕ} {m : List ℕ} {r : Answer} (p : ReclaimPromis
     λ e. let h = e .0 in g .1 (h .0, (h .1 .0, (h .1 .1 .0, (h .1 .1 .1 .0, (h .1 .1 .1 .1 .0, (h .1 .1 .1 .1 .1 .0, (le-ltb n (length (reclaiming l)) (e .1), tt))))))),
   )
 
-  -- recovery's
+  -- 2 is recovery's
   pub number-2 : numberOf r ≡ 2 → ⊥
   unfolding reclaimTable absent
   number-2 = not-given (p .answer) 2 tt

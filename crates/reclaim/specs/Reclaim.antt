@@ -9,7 +9,6 @@ use Rattle.page.specs.declared.state.PageState.the-variants.{Blank, Corrupt, Ac
 use Rattle.flash.specs.Step.{Step, erase, run}
 use Rattle.item.specs.Mark.{markFreeing}
 use Rattle.relocate.specs.Move.{moving}
-use Rattle.answer.specs.declared.Answer.{Answer}
 use Rattle.answer.specs.declared.Answer.the-variants.{ActiveStands, AllWritten, NoFreeSector, SequencesSpent, NotReclaimable}
 use Rattle.reclaim.specs.declared.plan.Plan.{Plan}
 use Rattle.reclaim.specs.declared.plan.Plan.the-variants.{Refuse, Clear, Move}

@@ -2,7 +2,7 @@
 -- nothing.
 use mathlib.Core.Path.{_≡_}
 use mathlib.Core.Logic.{_↔_}
-use mathlib.Core.Bool.{true, false, not}
+use mathlib.Core.Bool.{true, false}
 use mathlib.Core.List.{List}
 use Prim.Native.Nat.{ℕ, _-_, _≤_, _<_}
 use lib.Dec.{leb, ltb}
@@ -32,17 +32,17 @@ passed-all l lent n = (
 )
 
 module _ (l : List ℕ) (lent n : ℕ) {r : Answer} (t : Told (recoverTable l lent n) n (called l lent) r) where
-  -- "image not 2 to 16 whole sectors"
+  -- 1 exactly when the image is not 2 to 16 whole sectors
   pub number-1 : (numberOf r ≡ 1) ↔ (wholeSectors l ≡ false)
   unfolding recoverTable before conditionOf once absent
   number-1 = let g = given t 1 tt in (λ e. not-true (wholeSectors l) (g .0 e .1), λ e. g .1 (tt, rw e))
 
-  -- "fewer records than sectors"
+  -- 2 exactly when there are fewer records than sectors
   pub number-2 : (numberOf r ≡ 2) ↔ (Passed l lent n 2 × (lent < sectorsOf l))
   unfolding recoverTable before conditionOf once absent
   number-2 = let g = given t 2 tt in (λ e. let h = g .0 e in (h .0, ltb-true lent (sectorsOf l) (h .1)), λ e. g .1 (e .0, lt-ltb lent (sectorsOf l) (e .1)))
 
-  -- "k Freeing pages, k above 0, greatest sequence above 0xFFFFFFFE - k"
+  -- 6 exactly when there are k Freeing pages, k above 0, and the greatest sequence is above 0xFFFFFFFE - k
   pub number-6 : (numberOf r ≡ 6) ↔ (Passed l lent n 6 × (1 ≤ freeings (pages l)) × (0xFFFFFFFE - freeings (pages l) < greatest sequence (pages l)))
   unfolding recoverTable before conditionOf once absent tooHigh
   number-6 =
@@ -53,12 +53,12 @@ module _ (l : List ℕ) (lent n : ℕ) {r : Answer} (t : Told (recoverTable l le
         λ e. g .1 (e .0, both-is (leb 1 k) (ltb (0xFFFFFFFE - k) top) (le-leb 1 k (e .1)) (lt-ltb (0xFFFFFFFE - k) top (e .2))),
       )
 
-  -- "allowance used up before the end"
+  -- 7 exactly when the allowance is used up before the end
   pub number-7 : (numberOf r ≡ 7) ↔ (Passed l lent n 7 × (n < length (called l lent)))
   unfolding recoverTable before conditionOf once absent
   number-7 = let g = given t 7 tt in (λ e. let h = g .0 e in (h .0, ltb-true n (length (called l lent)) (h .1)), λ e. g .1 (e .0, lt-ltb n (length (called l lent)) (e .1)))
 
-  -- "the list of steps ended"
+  -- 0 exactly when the list of steps ended
   pub number-0 : (numberOf r ≡ 0) ↔ (Passed l lent n 7 × (length (called l lent) ≤ n))
   unfolding recoverTable before positive
   number-0 = let g = given-last t tt in (
@@ -66,7 +66,7 @@ module _ (l : List ℕ) (lent n : ℕ) {r : Answer} (t : Told (recoverTable l le
     λ e. g .1 (e .0 .0, (e .0 .1 .0, (e .0 .1 .1 .0, (le-ltb n (length (called l lent)) (e .1), tt)))),
   )
 
-  -- those of reclaim
+  -- 3, 4, 5 and 8 are reclaim's
   pub number-3 : numberOf r ≡ 3 → ⊥
   unfolding recoverTable absent
   number-3 = not-given t 3 tt
