@@ -16,7 +16,7 @@ use Rattle.answer.specs.Answer.{refusal, stepsOf}
 use Rattle.answer.specs.declared.Went.{Went}
 use Rattle.answer.specs.Went.{inStage, toldOf}
 use Rattle.answer.specs.Staged.{tag, answerOf}
-use Rattle.answer.specs.Told.{numberIn, Told}
+use Rattle.answer.specs.Told.{numberIn}
 use Rattle.answer.proofs.Tagged.{length-tag}
 use Rattle.answer.proofs.Made.{untag-only, made-tag, told-is}
 use Rattle.answer.proofs.Values.{told-same, steps-listed, idle, no-steps, refusal-told, no-refusal, answer-told}
@@ -25,7 +25,7 @@ use Rattle.table.specs.Table.{wholeSectors, pages, frees}
 use Rattle.reclaim.specs.declared.plan.Plan.{Plan}
 use Rattle.reclaim.specs.declared.plan.Plan.the-variants.{Refuse, Clear, Move}
 use Rattle.reclaim.specs.Reclaim.{plan, planSteps, reclaiming}
-use Rattle.reclaim.specs.Promise.{reclaimTable, planAnswer, reclaimAnswer, ReclaimPromise}
+use Rattle.reclaim.specs.Promise.{reclaimTable, ReclaimPromise}
 use Rattle.reclaim.proofs.Answered.{Numbered, numbered}
 
 no-tagged : {ss : List Step} → ss ≡ [] → tag Reclaim ss ≡ []
@@ -55,45 +55,19 @@ module _ (l : List ℕ) (n : ℕ) where
       let z = no-plan-steps a w e in
       record { answer = refusal-told n a (q .0) (q .1) (no-tagged z); image = idle n l (reclaiming l) z }
 
-  steps-told-as : numberIn (reclaimTable l n) ≡ cond (ltb n (length (reclaiming l))) 7 0 → Told (reclaimTable l n) n (tag Reclaim (reclaiming l)) (answerOf n (tag Reclaim (reclaiming l)))
-  steps-told-as k = answer-told n (tag Reclaim (reclaiming l)) (rw (length-tag Reclaim (reclaiming l)) k)
-
   -- of a plan that is no refusal
   pub promised : (p : Plan) (m : List ℕ) (x : Ran) (r : Answer) → wholeSectors l ≡ true → plan (pages l) (frees l) ≡ p
       → (Numbered l n p → numberIn (reclaimTable l n) ≡ cond (ltb n (length (reclaiming l))) 7 0) → Did (planSteps l p) n l m x → r ≡ toldOf (inStage Reclaim x) n → ReclaimPromise l n m r
   promised p m x r w e q d t =
       let s = steps-of p w e in
       let a : r ≡ answerOf n (tag Reclaim (reclaiming l)) = t ∙ ap (λ (v : Went). toldOf v n) (made-tag Reclaim d .answer) ∙ told-is n (tag Reclaim (planSteps l p)) ∙ ap (λ (ss : List Step). answerOf n (tag Reclaim ss)) (sym s) in
+      let k : numberIn (reclaimTable l n) ≡ cond (ltb n (length (tag Reclaim (reclaiming l)))) 7 0 = rw (length-tag Reclaim (reclaiming l)) (q (subst (Numbered l n) e (numbered l n w))) in
       record {
-        answer = rw a (steps-told-as (q (subst (Numbered l n) e (numbered l n w))));
+        answer = rw a (answer-told n (tag Reclaim (reclaiming l)) k);
         image = d .image ∙ ap (λ (ss : List Step). run (take n ss) l) (sym s);
       }
 
-  -- ---- the answer as a value
-
-  reclaim-told : Told (reclaimTable l n) n (tag Reclaim (reclaiming l)) (reclaimAnswer l n)
-  unfolding reclaimAnswer planAnswer
-  reclaim-told = go (wholeSectors l) refl
-    where
-      made : (p : Plan) → wholeSectors l ≡ true → plan (pages l) (frees l) ≡ p → numberIn (reclaimTable l n) ≡ cond (ltb n (length (reclaiming l))) 7 0
-          → Told (reclaimTable l n) n (tag Reclaim (reclaiming l)) (answerOf n (tag Reclaim (planSteps l p)))
-      made p w e k = rw (← steps-of p w e) (steps-told-as k)
-
-      with-plan : wholeSectors l ≡ true → (p : Plan) → plan (pages l) (frees l) ≡ p → Numbered l n p → Told (reclaimTable l n) n (tag Reclaim (reclaiming l)) (planAnswer n l p)
-      with-plan w (Refuse a) e k = promised-refusal a w e .answer
-      with-plan w (Clear s) e k = made (Clear s) w e k
-      with-plan w (Move s t q) e k = made (Move s t q) w e k
-
-      go : (b : Bool) → wholeSectors l ≡ b → Told (reclaimTable l n) n (tag Reclaim (reclaiming l)) (cond b (planAnswer n l (plan (pages l) (frees l))) NotSectors)
-      go true w = with-plan w (plan (pages l) (frees l)) refl (numbered l n w)
-      go false w = refused-whole w .answer
-
-  pub reclaim-answer : {m : List ℕ} {r : Answer} → ReclaimPromise l n m r → r ≡ reclaimAnswer l n
-  reclaim-answer p = told-same (p .answer) reclaim-told
-
-  -- ---- what the promise fixes
-
-  -- two outcomes that it allows are the same
+  -- two outcomes that the promise allows are the same
   pub reclaim-same : {m m′ : List ℕ} {r r′ : Answer} → ReclaimPromise l n m r → ReclaimPromise l n m′ r′ → (m ≡ m′) × (r ≡ r′)
   reclaim-same p q = (p .image ∙ sym (q .image), told-same (p .answer) (q .answer))
 

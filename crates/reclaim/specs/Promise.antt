@@ -1,7 +1,7 @@
 -- Rule. Document 01, What the promises have to say: what reclaim promises, of the image l, with n steps allowed, the image m and the answer r. Assumes
 -- nothing.
 use mathlib.Core.Path.{_≡_}
-use mathlib.Core.Bool.{Bool, true, false, cond, not, _&&_}
+use mathlib.Core.Bool.{Bool, true, false, not, _&&_}
 use mathlib.Core.Option.{Option, none, some}
 use mathlib.Core.List.{List, [], _∷_}
 use Prim.Native.Nat.{ℕ}
@@ -10,15 +10,12 @@ use lib.ListN.{length, take}
 use Rattle.flash.specs.Step.{run}
 use Rattle.answer.specs.declared.Stage.the-variants.{Reclaim}
 use Rattle.answer.specs.declared.Answer.{Answer}
-use Rattle.answer.specs.declared.Answer.the-variants.{NotSectors}
-use Rattle.answer.specs.Staged.{tag, answerOf}
+use Rattle.answer.specs.Staged.{tag}
 use Rattle.answer.specs.Told.{Line, _when_, Told}
 use Rattle.lists.specs.Lists.{some-of}
 use Rattle.table.specs.declared.Page.{Page}
 use Rattle.table.specs.Table.{wholeSectors, pages, frees, activePage}
-use Rattle.reclaim.specs.declared.plan.Plan.{Plan}
-use Rattle.reclaim.specs.declared.plan.Plan.the-variants.{Refuse, Clear, Move}
-use Rattle.reclaim.specs.Reclaim.{candidate, chosen, closed, sequencesSpent, plan, planSteps, reclaiming}
+use Rattle.reclaim.specs.Reclaim.{candidate, chosen, closed, sequencesSpent, reclaiming}
 
 -- what holds of the page chosen
 abbrev pub ofChosen : (Page → Bool) → Option Page → Bool
@@ -58,13 +55,3 @@ mostSteps = 1_271
 pub record ReclaimPromise (l : List ℕ) (n : ℕ) (m : List ℕ) (r : Answer) : Type 0 where
   pub answer : Told (reclaimTable l n) n (tag Reclaim (reclaiming l)) r
   pub image : m ≡ run (take n (reclaiming l)) l
-
--- ---- the answer that this promise determines, as a value: for the code
-
-unfoldable pub planAnswer : ℕ → List ℕ → Plan → Answer
-planAnswer n l (Refuse a) = a
-planAnswer n l (Clear s) = answerOf n (tag Reclaim (planSteps l (Clear s)))
-planAnswer n l (Move s t q) = answerOf n (tag Reclaim (planSteps l (Move s t q)))
-
-unfoldable pub reclaimAnswer : List ℕ → ℕ → Answer
-reclaimAnswer l n = cond (wholeSectors l) (planAnswer n l (plan (pages l) (frees l))) NotSectors
