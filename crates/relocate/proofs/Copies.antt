@@ -8,7 +8,7 @@ use native.Mathlib.Omega.{arith}
 use lib.ListN.{drop, getD, length, length-drop, length-take, take}
 use lib.Seq.{take-nil, take-take}
 use Rattle.entry.specs.Fields.{entryAt, spanOf}
-use Rattle.page.specs.declared.state.PageState.the-variants.{Active}
+use Rattle.page.specs.declared.state.PageState.the-variants.{Active, Full}
 use Rattle.page.specs.State.{isFree, sequenceOf, stateOf}
 use Rattle.page.specs.Walk.{Laid, isItem, itemsOf, laidAt, onFrom, rightHeader, walk}
 use Rattle.flash.specs.Step.{Step, run}
@@ -16,18 +16,18 @@ use Rattle.flash.proofs.Laws.{cut-append, run-append}
 use Rattle.flash.proofs.Lent.{AllFit, Fit}
 use Rattle.flash.proofs.Order.{le-or-gt}
 use Rattle.flash.proofs.Every.{every-append, every-none}
-use Rattle.found.proofs.Keys.{part-small}
+use Rattle.flash.proofs.Small.{part-small}
 use Rattle.item.specs.Copy.{copying}
 use Rattle.item.proofs.Local.{copying-fit}
 use Rattle.relocate.specs.Move.{copies}
 use Rattle.lists.specs.Lists.{sumOf}
 use Rattle.lists.proofs.Maps.{in-map, map-in}
 use Rattle.lists.proofs.Member.{_∈_, in-left, true≢false}
-use Rattle.power.proofs.Items.{IsItem, item-is, raw-span, rawAt}
-use Rattle.power.proofs.Read.{Word4}
-use Rattle.power.proofs.Shape.{AllFine, Fine, Shape, raws, shape-active, shape-full, shape-items, shape-room, shape-sequence}
-use Rattle.power.proofs.State.{Partial, Settled}
-use Rattle.power.proofs.OneItem.{item-cut, item-end, item-ones}
+use Rattle.page.proofs.Walking.{raw-span}
+use Rattle.page.proofs.Items.{IsItem, is-item, item-is, rawAt}
+use Rattle.page.proofs.Read.{Word4, noRoom}
+use Rattle.item.proofs.Shape.{AllFine, Fine, Shape, raws, shape-active, shape-full, shape-items, shape-room, shape-sequence}
+use Rattle.item.proofs.OneItem.{item-cut, item-end, item-ones}
 
 -- how many entries they take
 abbrev pub spans : List (List ℕ) → ℕ
@@ -120,6 +120,15 @@ unfolding sumOf
 more-none [] F h = refl
 more-none (r ∷ rs) F h = let b = F .0 .some in absurd (omega arith)
 
+-- each item of the target is one of the source's, and they are all there where no entry is Empty
+pub record Partial (S T : List ℕ) : Type 0 where
+  pub sub : (y : Laid) → y ∈ itemsOf T → (x : Laid) × (x ∈ itemsOf S) × (y .raw ≡ x .raw)
+  pub complete : noRoom T ≡ true → raws (itemsOf T) ≡ raws (itemsOf S)
+
+-- an Active page or a Full one
+abbrev pub Settled : List ℕ → Type 0
+Settled T = (stateOf T ≡ Active) ⊎ (stateOf T ≡ Full)
+
 -- ---- what is read of it
 module _ (q : ℕ) (xs : List Laid) (T : List ℕ) where
   -- a page to which a part was copied
@@ -164,7 +173,7 @@ module _ (S : List ℕ) (len : length S ≡ 4096) (small : (i : ℕ) → getD S 
   fine-raw e I =
       let a = I .ends in
       let b = I .some in
-      let sp = raw-span S e I in
+      let sp = raw-span S e (is-item S e I) in
       record {
         right = ap rightHeader (head-is e b) ∙ I .right;
         some = rw sp b;
@@ -190,7 +199,7 @@ module _ (S : List ℕ) (len : length S ≡ 4096) (small : (i : ℕ) → getD S 
           → AllFine (raws (walk S n (onFrom S i))) × (spans (raws (walk S n (onFrom S i))) ≤ 126 - cond b (i + spanOf (entryAt S i)) (i + 1))
           → AllFine (raws (cond b (laidAt S i ∷ walk S n (onFrom S i)) (walk S n (onFrom S i)))) ×
           (spans (raws (cond b (laidAt S i ∷ walk S n (onFrom S i)) (walk S n (onFrom S i)))) ≤ 126 - i)
-      go true q x = let I = item-is S i q in let a = raw-span S i I in let b = I .ends in let c = x .1 in ((fine-raw i I, x .0), omega arith)
+      go true q x = let I = item-is S i q in let a = raw-span S i q in let b = I .ends in let c = x .1 in ((fine-raw i I, x .0), omega arith)
       go false q x = let c = x .1 in (x .0, omega arith)
 
   -- the items of a page are fine, and fit on one

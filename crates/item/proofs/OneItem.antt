@@ -18,12 +18,13 @@ use Rattle.flash.proofs.Words.{words-in, words-read}
 use Rattle.flash.proofs.Laws.{cut-append, run-append}
 use Rattle.flash.proofs.Order.{le-or-gt}
 use Rattle.flash.proofs.Every.{every-none, every-one, every-take}
 use Rattle.item.specs.Copy.{copying, fullMark}
 use Rattle.item.specs.States.{marking}
 use Rattle.item.proofs.Spans.{marking-first, marking-in, marking-keeps}
 use Rattle.item.proofs.Turns.{full-no, full-yes}
-use Rattle.power.proofs.Read.{Word4, marked-word}
-use Rattle.power.proofs.Shape.{Fine, Shape, fine-append, laid-keep, laid-snoc, shape-marked, shape-words, word-keep}
+use Rattle.item.proofs.Marked.{marked-word}
+use Rattle.page.proofs.Read.{Word4}
+use Rattle.item.proofs.Shape.{Fine, Shape, fine-append, laid-keep, laid-snoc, shape-marked, shape-words, word-keep}
 
 module _ (q : ℕ) (T : List ℕ) (ys : List (List ℕ)) (p : ℕ) (H : Shape q T ys p) (r : List ℕ) (F : Fine r) (fit : p + spanOf r ≤ 126)
     (ones : (i : ℕ) → 64 + p * 32 ≤ i → i < 4096 → getD T i 0 ≡ 0xFF) where
