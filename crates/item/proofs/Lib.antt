@@ -5,6 +5,7 @@ pub mod Turns
 pub mod States
 pub mod Spans
 pub mod Marked
+pub mod Packed
 pub mod Local
 pub mod Shape
 pub mod Fresh

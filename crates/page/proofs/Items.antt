@@ -9,11 +9,11 @@ use lib.Dec.{eqb}
 use borrow.Author.Tests.{eq-eqb, eqb-true, le-leb}
 use Rattle.entry.specs.States.{stateAt, written}
 use Rattle.entry.specs.Fields.{entryAt, spanOf}
+use Rattle.lists.proofs.Member.{_∈_, refuted}
 use Rattle.page.specs.State.{isFree, stateOf}
 use Rattle.page.specs.Walk.{Laid, fits, isItem, itemsOf, laidAt, onFrom, readable, rightHeader, walk}
 use Rattle.page.proofs.Tests.{both-first, both-is, both-second}
 use Rattle.page.proofs.Walking.{item-span}
-use Rattle.lists.proofs.Member.{_∈_, refuted}
 
 -- the bytes of the item at entry i, header and payload
 abbrev pub rawAt : List ℕ → ℕ → List ℕ

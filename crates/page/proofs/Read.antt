@@ -11,12 +11,12 @@ use borrow.Author.Tests.{eqb-true}
 use Rattle.word.specs.Number.{le, part}
 use Rattle.word.proofs.Bytes.{le-part, part-byte}
 use Rattle.entry.specs.States.{countState, empty, stateAt}
+use Rattle.lists.proofs.Member.{true≢false}
 use Rattle.page.specs.declared.state.PageState.{PageState}
 use Rattle.page.specs.declared.state.PageState.the-variants.{Active, Blank, Corrupt, Freeing, Full}
 use Rattle.page.specs.State.{allOnes, headerRight, isFree, sequenceOf, stateOf, wordState}
 use Rattle.page.specs.Walk.{isItem, itemsOf, walk}
 use Rattle.page.proofs.Tests.{both-first, both-second}
-use Rattle.lists.proofs.Member.{true≢false}
 
 -- no entry of the sector is Empty
 abbrev pub noRoom : List ℕ → Bool

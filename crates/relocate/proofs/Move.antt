@@ -9,6 +9,7 @@ use lib.ListN.{length, take}
 use lib.Seq.{take-nil}
 use Rattle.page.specs.State.{allOnes, isFree, stateOf}
 use Rattle.page.specs.Walk.{Laid}
+use Rattle.page.proofs.Read.{ones-byte}
 use Rattle.flash.specs.Words.{words}
 use Rattle.flash.specs.Step.{Step, blank, erase, run, sector}
 use Rattle.flash.proofs.Erased.{blank-byte, erased-blank, length-sector}
@@ -19,24 +20,21 @@ use Rattle.flash.proofs.Every.{every-append, every-take}
 use Rattle.item.specs.Initialise.{clearing, header}
 use Rattle.item.proofs.Local.{header-fit}
 use Rattle.item.proofs.Clearing.{clearing-in}
+use Rattle.item.proofs.Fresh.{blank-free, init-junk, init-packed, init-shape, init-word, initSteps}
+use Rattle.item.proofs.Packed.{Ones, Packed}
+use Rattle.item.proofs.Shape.{AllFine, raws}
 use Rattle.relocate.specs.Move.{copies, moving}
 use Rattle.relocate.proofs.Filling.{fill, moving-fills}
-use Rattle.item.proofs.Fresh.{Ones, blank-free, high, init-junk, init-shape, init-word, initSteps}
-use Rattle.page.proofs.Read.{ones-byte}
-use Rattle.item.proofs.Shape.{AllFine, raws}
-use Rattle.relocate.proofs.Copies.{Going, Ready, copies-cut, copies-end, fine-fit, spans}
+use Rattle.relocate.proofs.Copies.{Going, Ready, copies-cut, copies-end, fine-fit, ready-packed, spans}
 
 module _ (q : ℕ) (xs : List Laid) (F : AllFine (raws xs)) (fit : spans (raws xs) ≤ 126) where
   module _ (T : List ℕ) (len : length T ≡ 4096) (on : Ones T 0) where
     abbrev I : List ℕ
     I = run (initSteps q) T
 
-    on-64 : Ones I 64
-    on-64 i a b = high q T len on i (omega arith) b
-
     fill-end : Ready q (raws xs) (run (fill q xs) T)
     fill-end = rw (run-append (initSteps q) (copies 0 0 xs) T)
-        (copies-end q (raws xs) I [] 0 xs (init-shape q T len on) (omega arith) (init-word q T len on) (λ i a b. on-64 i (omega arith) b) refl (omega arith) F)
+        (copies-end q (raws xs) I [] 0 xs (init-shape q T len on) (omega arith) (init-word q T len on) (init-packed q T len on) refl (omega arith) F)
 
     start : Going q (raws xs) I
     start = record { ys = []; p = 0; more = raws xs; shape = init-shape q T len on; word = init-word q T len on; all = refl; fit = omega arith; fine = F }
@@ -46,7 +44,7 @@ module _ (q : ℕ) (xs : List Laid) (F : AllFine (raws xs)) (fit : spans (raws x
     fill-cut k = ⊎-elim
         (λ e. rw e (head k))
         (λ e. rw (e .1) (rw (run-append (initSteps q) (take (suc (e .0)) (copies 0 0 xs)) T)
-        (inr (copies-cut q (raws xs) I [] 0 xs (suc (e .0)) (init-shape q T len on) (omega arith) (init-word q T len on) (λ i a b. on-64 i (omega arith) b) refl (omega arith) F))))
+        (inr (copies-cut q (raws xs) I [] 0 xs (suc (e .0)) (init-shape q T len on) (omega arith) (init-word q T len on) (init-packed q T len on) refl (omega arith) F))))
         (cut-append k (initSteps q) (copies 0 0 xs))
       where
         one-left : (j : ℕ) → take (suc j) (words 0 (header q) 0 1) ≡ words 0 (header q) 0 1
@@ -131,6 +129,10 @@ module _ (q : ℕ) (xs : List Laid) (F : AllFine (raws xs)) (fit : spans (raws x
     pub move-end : ((u : ℕ) → (u ≡ t → ⊥) → (u ≡ s → ⊥) → sector u (run (moving s t q xs l) l) ≡ sector u l) × Ready q (raws xs) (sector t (run (moving s t q xs l) l)) × (sector s (run (moving s t q xs l) l) ≡ blank 4096)
     move-end =
         rw (moving-fills s t q xs l, run-append (clearing t l) (shift (t * 4096) (fill q xs) ++ (erase s ∷ [])) l, run-append (shift (t * 4096) (fill q xs)) (erase s ∷ []) l1) whole
+
+    -- so all entries of the copy are Written, and behind them the sector is blank: the next item can be written there
+    pub moved-packed : Packed (sector t (run (moving s t q xs l) l)) (spans (raws xs))
+    moved-packed = ready-packed q (raws xs) (sector t (run (moving s t q xs l) l)) (move-end .1)
 
     -- and every cut
     pub move-cut : (k : ℕ) → Cut s t l (run (take k (moving s t q xs l)) l)
