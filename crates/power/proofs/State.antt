@@ -26,6 +26,7 @@ use Rattle.finish.specs.Finish.{nameOf, sameBytes}
 use Rattle.finishing.specs.Finishing.{freeings}
 use Rattle.power.specs.Demand3.{total}
 use Rattle.item.proofs.Shape.{raws}
+use Rattle.relocate.proofs.Copies.{Partial, Settled}
 
 -- the pages other than the source stand as they were
 pub record Side (L l : List ℕ) (s : ℕ) : Type 0 where
