@@ -1,4 +1,4 @@
--- The longest listing: a head of 46 bytes and 16 lines of 67. Assumes nothing.
+-- No listing is longer than a head of 46 bytes and 16 lines of 67. Assumes nothing.
 use mathlib.Core.Path.{_≡_, refl, ap, subst}
 use mathlib.Core.Bool.{Bool, true, false, cond}
 use mathlib.Core.List.{List, [], _∷_, _++_}
