@@ -73,10 +73,10 @@ module _ (m : List ℕ) (t : Rows) where
 
 module _ (l m : List ℕ) (r : Recovered) (p : Recovers l lent allowance m r) where
   pub rows-enough : r .rows .count ≤ length (r .rows .rows)
-  rows-enough = handed-out m (r .rows) (r .answer) (unstopped (p .answer) (omega arith)) (p .rows) .0
+  rows-enough = handed-out m (r .rows) (r .answer) (unstopped l lent allowance (p .answer) (omega arith)) (p .rows) .0
 
   pub listing-is : (bytes : ℕ) → head (bytes / 4096) (r .answer) ++ lines 0 (take (r .rows .count) (r .rows .rows)) ≡ listing l bytes
   unfolding listing
   listing-is bytes =
-      ap (λ (s : List ℕ). head (bytes / 4096) (r .answer) ++ s) (handed-out m (r .rows) (r .answer) (unstopped (p .answer) (omega arith)) (p .rows) .1) ∙
+      ap (λ (s : List ℕ). head (bytes / 4096) (r .answer) ++ s) (handed-out m (r .rows) (r .answer) (unstopped l lent allowance (p .answer) (omega arith)) (p .rows) .1) ∙
       ap (λ (a : Answer). head (bytes / 4096) a ++ linesFor a m) (recovers-answer p) ∙ ap (λ (i : List ℕ). head (bytes / 4096) (answered l) ++ linesFor (answered l) i) (p .image)

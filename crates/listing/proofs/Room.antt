@@ -169,4 +169,4 @@ pub listing-fits : (l : List ℕ) (bytes : ℕ) → Small l → bytes < 2 ^ 64 �
 unfolding listing
 listing-fits l bytes h k =
     omega
-    (arith, length-append (head (bytes / 4096) (answered l)) (linesFor (answered l) (imageAfter l)), head-most (bytes / 4096) (answered l) (omega (arith, k)) (steps-most (recover-told l lent allowance)), for-most l h)
+    (arith, length-append (head (bytes / 4096) (answered l)) (linesFor (answered l) (imageAfter l)), head-most (bytes / 4096) (answered l) (omega (arith, k)) (steps-most l lent allowance (recover-told l lent allowance)), for-most l h)
