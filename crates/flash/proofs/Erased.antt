@@ -1,13 +1,13 @@
 -- An erased sector is the image cut in three with ones in the middle. Assumes nothing.
 use mathlib.Core.Path.{_≡_, sym, ap, _∙_}
 use mathlib.Core.Logic.{_⊎_, ⊎-elim}
-use mathlib.Core.List.{List, _++_}
+use mathlib.Core.List.{List, [], _∷_, _++_}
 use Prim.Native.Nat.{ℕ, _+_, _-_, _*_, _≤_, _<_, min}
 use native.Mathlib.Omega.{arith}
 use lib.ListN.{length, getD, take, drop, length-append, length-take, length-drop, length-replicate, getD-replicate, List·getD-append, List·getD-eq-default}
 use lib.Seq.{getD-take, getD-drop, getD-append-add, length-take-le, take-at, drop-at}
 use borrow.Rule.Slice.PartMut.{midOf, putMid, post-is}
-use Rattle.flash.specs.Step.{blank, sector, erased}
+use Rattle.flash.specs.Step.{apply, blank, erase, erased, run, sector}
 use Rattle.flash.proofs.Order.{le-or-gt}
 
 pub length-blank : (n : ℕ) → length (blank n) ≡ n
@@ -61,6 +61,11 @@ module _ (l : List ℕ) (s : ℕ) where
       let m : length (take 4096 (drop (s * 4096) l)) ≡ 4096 = simp (length-take, length-drop) (omega arith) in
       rw (m, drop-at (take (s * 4096) l) (blank 4096 ++ drop (s * 4096 + 4096) l) (s * 4096) n)
       (take-at (blank 4096) (drop (s * 4096 + 4096) l) 4096 (length-blank 4096))
+
+  -- after an erasure the sector is blank
+  pub erased-blank : s * 4096 + 4096 ≤ length l → sector s (run (erase s ∷ []) l) ≡ blank 4096
+  unfolding run apply
+  erased-blank h = sector-erased h
 
   -- a callee that was lent the sector left it blank
   pub lent-erase : (last : List ℕ) → last ≡ blank (length (midOf (s * 4096) (s * 4096 + 4096 - s * 4096) l))

@@ -13,7 +13,7 @@ use Rattle.flash.specs.Did.{Did}
 use Rattle.flash.proofs.Order.{le-or-gt}
 use Rattle.flash.proofs.Bytes.{length-andWord, word-other}
 use Rattle.flash.proofs.Erased.{length-erased, erased-other}
-use Rattle.flash.proofs.Every.{Every, every-take}
+use Rattle.flash.proofs.Every.{Every, every-one, every-take}
 
 -- the step touches bytes from a up to, not including, b alone
 abbrev pub In : ℕ → ℕ → Step → Type 0
@@ -22,6 +22,10 @@ In a b (erase s) = (a ≤ s * 4096) × (s * 4096 + 4096 ≤ b)
 
 abbrev pub AllIn : ℕ → ℕ → List Step → Type 0
 AllIn a b ss = Every (In a b) ss
+
+-- an erasure touches its sector
+pub erase-in : (s : ℕ) → AllIn (s * 4096) (s * 4096 + 4096) (erase s ∷ [])
+erase-in s = every-one (In (s * 4096) (s * 4096 + 4096)) (erase s) (omega arith, omega arith)
 
 -- the byte j lies outside
 abbrev pub Outside : ℕ → ℕ → ℕ → Type 0

@@ -4,6 +4,7 @@ use Prim.Native.Nat.{ℕ, zero, suc, _+_, _*_, _<_}
 use native.Mathlib.Omega.{arith}
 use lib.ListN.{length, getD, take, drop}
 use lib.Seq.{getD-drop}
+use Rattle.word.specs.Number.{part}
 use Rattle.flash.specs.Step.{Step, program, erase, put, andWord, blank, sector, erased, apply, run}
 use Rattle.flash.proofs.Lower.{put-le}
 
@@ -20,6 +21,10 @@ small-take zero xs h i = omega arith
 small-take (suc n) [] h i = omega arith
 small-take (suc n) (x ∷ xs) h zero = h zero
 small-take (suc n) (x ∷ xs) h (suc i) = small-take n xs (λ j. h (suc j)) i
+
+-- a part of bytes is bytes
+pub part-small : (l : List ℕ) (a n : ℕ) → Small l → Small (part l a n)
+part-small l a n h = small-take n (drop a l) (λ j. rw (getD-drop a l j 0) (h (a + j)))
 
 small-blank : (n : ℕ) → Small (blank n)
 unfolding blank

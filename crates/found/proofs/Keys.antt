@@ -1,15 +1,13 @@
 -- A key of bytes is a number below 2 ^ 128, and what is read of an image is bytes. Assumes nothing.
-use mathlib.Core.Logic.{⊎-elim}
 use mathlib.Core.List.{List}
 use Prim.Native.Nat.{_+_, _-_, _*_, _<_, _^_, suc, zero, ℕ}
 use native.Mathlib.Nat.{pow-suc}
 use native.Mathlib.Omega.{arith}
 use lib.Arith.{digits-lt}
-use lib.ListN.{getD, drop, length-take, List·getD-eq-default}
+use lib.ListN.{getD}
 use Rattle.word.specs.Number.{be, number, part}
-use Rattle.word.proofs.Bytes.{part-byte}
 use Rattle.entry.specs.Fields.{keyNumber, keyOf, spanOf}
-use Rattle.flash.proofs.Order.{le-or-gt}
+use Rattle.flash.proofs.Small.{part-small}
 use Rattle.found.specs.Places.{itemAt}
 
 number-lt : (f : ℕ → ℕ) → ((j : ℕ) → f j < 256) → (n : ℕ) → number f n < 256 ^ n
@@ -27,11 +25,6 @@ be-lt r h at = number-lt (λ j. getD r (at + (8 - suc j)) 0) (λ j. h (at + (8 -
 pub key-lt : (r : List ℕ) → ((i : ℕ) → getD r i 0 < 256) → keyNumber (keyOf r) < 2 ^ 128
 unfolding keyOf
 key-lt r h = digits-lt (be-lt r h 8) (be-lt r h 16)
-
--- a part of bytes is bytes
-pub part-small : (l : List ℕ) (a n : ℕ) → ((i : ℕ) → getD l i 0 < 256) → (i : ℕ) → getD (part l a n) i 0 < 256
-part-small l a n h i =
-    ⊎-elim (λ k. rw (List·getD-eq-default (part l a n) 0 {n = i} (let z = length-take n (drop a l) in omega arith)) (omega arith)) (λ k. rw (part-byte l a n i k) (h (a + i))) (le-or-gt n i)
 
 pub item-key : (l : List ℕ) (p : ℕ) → ((i : ℕ) → getD l i 0 < 256) → keyNumber (keyOf (itemAt l p .raw)) < 2 ^ 128
 unfolding itemAt

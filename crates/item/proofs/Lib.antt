@@ -1,10 +1,14 @@
-pub mod Ones
 pub mod Clearing
 pub mod Header
 pub mod Pairs
 pub mod Turns
 pub mod States
 pub mod Spans
+pub mod Marked
+pub mod Packed
 pub mod Local
+pub mod Shape
+pub mod Fresh
+pub mod OneItem
 pub mod Safe
 pub mod Lengths

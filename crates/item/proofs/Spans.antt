@@ -6,6 +6,7 @@ use mathlib.Core.List.{List, [], _∷_}
 use Prim.Native.Nat.{ℕ, zero, suc, _+_, _-_, _/_, _≤_, _<_}
 use native.Mathlib.Omega.{arith}
 use lib.ListN.{length, take, drop}
+use lib.Seq.{take-all}
 use Rattle.entry.specs.States.{stateAt}
 use Rattle.flash.specs.Step.{Step, run, apply, and8}
 use Rattle.flash.proofs.Order.{le-or-gt}
@@ -98,6 +99,25 @@ module _ (base j n d e : ℕ) (small : d ≤ 3) (from : j ≤ e) (to : e < j + n
           let len = length-apply (stateWord base j n d (w + k)) l in
           rest (omega arith) (omega arith) a q ∙ ap (λ (s : ℕ). and8 s (3 - d)) (apart (w + k) (omega arith) (λ i. omega arith) l h)
 
+  -- ascending, the other way about
+  up-sets : (w k : ℕ) (l : List ℕ) → base + 4096 ≤ length l → w + k ≤ 8 → w ≤ e / 16 → e / 16 < w + k
+      → stateAt (drop base (run (statesUp base j n d w k) l)) e ≡ and8 (stateAt (drop base l) e) (3 - d)
+  unfolding statesUp run
+  up-sets w zero l h g a b = absurd (omega arith)
+  up-sets w (suc k) l h g a b = go (le-or-gt (e / 16) w) (up-sets (w + 1) k (apply (stateWord base j n d w) l))
+    where
+      m : List ℕ
+      m = apply (stateWord base j n d w) l
+
+      go : (e / 16 ≤ w) ⊎ (w < e / 16)
+          → (base + 4096 ≤ length m → w + 1 + k ≤ 8 → w + 1 ≤ e / 16 → e / 16 < w + 1 + k → stateAt (drop base (run (statesUp base j n d (w + 1) k) m)) e ≡ and8 (stateAt (drop base m) e) (3 - d))
+          → stateAt (drop base (run (statesUp base j n d (w + 1) k) m)) e ≡ and8 (stateAt (drop base l) e) (3 - d)
+      go (inl q) rest =
+          sets-first w _ l h (omega arith) (omega arith) (up-every (Leaves base e) base j n d (w + 1) k (λ v x y. apart v (omega arith) (λ i. omega arith)))
+      go (inr q) rest =
+          let len = length-apply (stateWord base j n d w) l in
+          rest (omega arith) (omega arith) (omega arith) (omega arith) ∙ ap (λ (s : ℕ). and8 s (3 - d)) (apart w (omega arith) (λ i. omega arith) l h)
+
 -- a cut short of the last word leaves what that covers
 down-cut : (base j n d e w k c : ℕ) (l : List ℕ) → base + 4096 ≤ length l → d ≤ 3 → j ≤ e → e < j + n → w + suc k ≤ 8 → e / 16 ≡ w → c ≤ k
     → stateAt (drop base (run (take c (statesDown base j n d w (suc k))) l)) e ≡ stateAt (drop base l) e
@@ -113,6 +133,10 @@ unfolding statesDown
 length-down base j n d w zero = refl
 length-down base j n d w (suc k) = ap suc (length-down base j n d w k)
 
+-- a cut at the end is none
+pub marking-whole : (base j n : ℕ) → take (suc (length (marking base j n))) (marking base j n) ≡ marking base j n
+marking-whole base j n = take-all (suc (length (marking base j n))) (marking base j n) (omega arith)
+
 module _ (base j n : ℕ) (some : 1 ≤ n) (fits : j + n ≤ 126) (l : List ℕ) (long : base + 4096 ≤ length l) where
   abbrev more : ℕ
   more = (j + (n - 1)) / 16 - j / 16
@@ -127,6 +151,11 @@ module _ (base j n : ℕ) (some : 1 ≤ n) (fits : j + n ≤ 126) (l : List ℕ)
       rw one-more
       (sets-first base j n 1 j (omega arith) (omega arith) (omega arith) (j / 16) _ l long (omega arith) refl
       (every-take (Leaves base j) c _ (up-every (Leaves base j) base j n 1 (j / 16 + 1) more (λ v x y. apart base j n 1 j (omega arith) (omega arith) (omega arith) v (omega arith) (λ i. omega arith)))))
+
+  -- and one that has ended, each entry of the span
+  pub marking-ends : (e : ℕ) → j ≤ e → e < j + n → stateAt (drop base (run (marking base j n) l)) e ≡ and8 (stateAt (drop base l) e) 2
+  unfolding marking
+  marking-ends e a b = up-sets base j n 1 e (omega arith) a b (j / 16) (covering j n) l long (omega arith) (omega arith) (omega arith)
 
   -- an unmarking that has not ended has left it
   pub unmarking-before : (c : ℕ) → c < length (unmarking base j n) → stateAt (drop base (run (take c (unmarking base j n)) l)) j ≡ stateAt (drop base l) j

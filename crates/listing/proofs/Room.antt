@@ -18,8 +18,7 @@ use Rattle.page.specs.State.{isFree, stateOf}
 use Rattle.page.specs.Record.{freeRecord, usedRecord, recordOf}
 use Rattle.flash.specs.Step.{sector}
 use Rattle.flash.proofs.Frame.{length-run}
-use Rattle.flash.proofs.Small.{Small, run-small}
-use Rattle.found.proofs.Keys.{part-small}
+use Rattle.flash.proofs.Small.{Small, run-small, part-small}
 use Rattle.table.specs.Table.{sectorsOf, wholeSectors}
 use Rattle.table.proofs.Whole.{whole-is}
 use Rattle.answer.specs.declared.Answer.{Answer}

@@ -11,7 +11,7 @@ use Rattle.entry.proofs.Counting.{count-le}
 use Rattle.page.specs.State.{isFree, stateOf}
 use Rattle.page.specs.Walk.{itemsOf, walk}
 use Rattle.lists.proofs.Member.{cond-same}
-use Rattle.power.proofs.Items.{no-item}
+use Rattle.page.proofs.Items.{no-item}
 
 count-every : (f : ℕ → ℕ) (v m : ℕ) → countOf f v m ≡ m → (i : ℕ) → i < m → f i ≡ v
 unfolding countOf

@@ -21,9 +21,9 @@ use Rattle.power.proofs.Runs.{Runs, rec-none}
 use Rattle.power.proofs.Quiet.{no-kept}
 use Rattle.power.proofs.Finish.{finish-one, full-round}
 use Rattle.power.proofs.Plain.{finishOn, plain, rescan}
-use Rattle.power.proofs.Shape.{raws}
+use Rattle.item.proofs.Shape.{raws}
 use Rattle.power.proofs.Ends.{e-done, one-step}
-use Rattle.power.proofs.Items.{listed-items}
+use Rattle.table.proofs.Pages.{listed-items}
 
 module _ (L : List ℕ) (s : ℕ) (G : Good L s) (small : (i : ℕ) → getD L i 0 < 256) where
   abbrev n : ℕ

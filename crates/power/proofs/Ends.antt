@@ -11,13 +11,15 @@ use Rattle.page.specs.declared.state.PageState.the-variants.{Full}
 use Rattle.page.specs.State.{isFree, stateOf}
 use Rattle.page.specs.Walk.{Laid, itemsOf}
 use Rattle.flash.specs.Step.{Step, erase, run, sector}
-use Rattle.flash.proofs.Frame.{length-run, sector-kept}
+use Rattle.flash.proofs.Frame.{length-run, sector-kept, erase-in}
 use Rattle.lists.proofs.Member.{true≢false}
 use Rattle.table.specs.Table.{sectorsOf}
-use Rattle.power.proofs.State.{AllFree, Good, Settled, Side, State, Target, done, gone}
+use Rattle.power.proofs.State.{AllFree, Good, Side, State, Target, done, gone}
+use Rattle.relocate.proofs.Copies.{Settled}
 use Rattle.power.proofs.Runs.{run-nil}
-use Rattle.power.proofs.Move.{blank-free, erase-in, erased-blank}
-use Rattle.power.proofs.Shape.{raws}
+use Rattle.item.proofs.Fresh.{blank-free}
+use Rattle.flash.proofs.Erased.{erased-blank}
+use Rattle.item.proofs.Shape.{raws}
 use Rattle.power.proofs.Steps.{Final, done-final, gone-final}
 
 module _ (L : List ℕ) (s : ℕ) (G : Good L s) (small : (i : ℕ) → getD L i 0 < 256) where
@@ -42,7 +44,7 @@ module _ (L : List ℕ) (s : ℕ) (G : Good L s) (small : (i : ℕ) → getD L i
     e-side = record { len = length-run (erase s ∷ []) l ∙ D .len; kept = λ u h k e. e-others u k ∙ D .kept u h k e }
 
     e-free : isFree (stateOf (sector s le)) ≡ true
-    e-free = rw (erased-blank s l (room l (D .len) s (G .here))) blank-free
+    e-free = rw (erased-blank l s (room l (D .len) s (G .here))) blank-free
 
     not-s : (u : ℕ) → isFree (stateOf (sector u L)) ≡ true → u ≡ s → ⊥
     not-s u f k = true≢false (rw k at f) (G .page)

@@ -31,10 +31,11 @@ use Rattle.lists.proofs.Search.{in-keep}
 use Rattle.lists.proofs.Member.{_∈_, true≢false}
 use Rattle.table.specs.Table.{sectorsOf}
 use Rattle.found.specs.Found.{Found}
-use Rattle.power.proofs.Items.{Real, is-item, raw-span, walk-in}
+use Rattle.page.proofs.Walking.{raw-span}
+use Rattle.page.proofs.Items.{Real, is-item, walk-in}
 use Rattle.power.proofs.Once.{but, items-in}
-use Rattle.power.proofs.Read.{right-same, state-inv, state-is, stateByte, wordBy}
-use Rattle.power.proofs.Shape.{word-keep}
+use Rattle.page.proofs.Read.{right-same, state-inv, state-is, stateByte, wordBy}
+use Rattle.item.proofs.Shape.{word-keep}
 use Rattle.power.proofs.Walks.{items-gone, items-kept}
 
 -- ---- steps within the entry states leave the page's header
@@ -93,7 +94,7 @@ module _ (l : List ℕ) (x : Found) (S : Stands l x) where
   on-page = let r = items-in T this (S .1) in (r .0, walk-in T 126 0 this (r .1))
 
   span : spanOf (entryAt T e) ≡ n
-  span = let r = on-page .1 in sym (ap spanOf (r .bytes) ∙ raw-span T e (r .is))
+  span = let r = on-page .1 in sym (ap spanOf (r .bytes) ∙ raw-span T e (is-item T e (r .is)))
 
   some : 1 ≤ n
   some = let q = span in let a = on-page .1 .is .some in omega arith

@@ -30,10 +30,10 @@ use Rattle.table.proofs.Records.{record-sequence}
 use Rattle.finish.specs.Finish.{afresh, after, copyOf, holdsAll, nameOf, newest, newestHolds, nextSequence, noOlderPage, round, roundWith, sameBytes}
 use Rattle.finishing.specs.Finishing.{freeings}
 use Rattle.power.proofs.Plain.{finish, finishOn, finishWith, rescan}
-use Rattle.power.proofs.Shape.{raws}
+use Rattle.item.proofs.Shape.{raws}
 use Rattle.power.proofs.State.{Good, Old, Side, Source, SourceRecord, TargetRecord, old-full, old-sequence}
 use Rattle.power.proofs.Same.{holds-is, same-eq, same-refl}
-use Rattle.power.proofs.Items.{listed-items}
+use Rattle.table.proofs.Pages.{listed-items}
 use Rattle.power.proofs.Totals.{onSector, total-sectors}
 
 -- a sequence that a new target may have: above those of all pages, and not too high for what comes after

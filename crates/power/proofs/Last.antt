@@ -38,7 +38,7 @@ use Rattle.power.proofs.Lone.{Lone}
 use Rattle.power.proofs.Marks.{Marks, m-full, m-items, m-others}
 use Rattle.power.proofs.Plain.{orderOn, plain, stages}
 use Rattle.power.proofs.Quiet.{Ordered, Rest, active-inv, plain-rest, rest-order}
-use Rattle.power.proofs.Read.{noRoom}
+use Rattle.page.proofs.Read.{noRoom}
 use Rattle.power.proofs.Runs.{run-nil}
 use Rattle.power.proofs.Totals.{onSector, total-sectors}
 

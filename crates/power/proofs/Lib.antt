@@ -1,4 +1,3 @@
-pub mod Items
 pub mod Once
 pub mod Walks
 pub mod Calm
@@ -6,17 +5,11 @@ pub mod Doomed
 pub mod Gone
 pub mod First
 pub mod Plain
-pub mod Read
 pub mod Marks
 pub mod Totals
 pub mod Lone
 pub mod Quiet
-pub mod Shape
-pub mod OneItem
 pub mod State
-pub mod Copies
-pub mod Initial
-pub mod Move
 pub mod Same
 pub mod Finish
 pub mod Steps

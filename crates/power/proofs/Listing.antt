@@ -18,7 +18,7 @@ use Rattle.lists.proofs.Sums.{sum-ext, sum-ge}
 use Rattle.lists.proofs.Range.{sumTo-ext}
 use Rattle.table.specs.declared.Page.{Page}
 use Rattle.table.specs.Table.{frees, inSector, itemsIn, pages, sectorsOf}
-use Rattle.table.proofs.Pages.{length-frees, once, pages-in, sum-pages}
+use Rattle.table.proofs.Pages.{length-frees, once, pages-in, sum-pages, listed-items}
 use Rattle.table.proofs.Places.{one-cond}
 use Rattle.found.specs.Found.{Found, found, foundOn}
 use Rattle.duplicates.proofs.Apart.{found-once}
@@ -27,7 +27,6 @@ use Rattle.quick.specs.Calm.{tot}
 use Rattle.quick.proofs.Counts.{one-true, pos-in}
 use Rattle.power.specs.Demand3.{total}
 use Rattle.power.proofs.Erasing.{Stands}
-use Rattle.power.proofs.Items.{listed-items}
 use Rattle.power.proofs.Steps.{freeAt}
 use Rattle.power.proofs.Totals.{found-total, total-walked, walked}
 

@@ -16,7 +16,8 @@ use Rattle.flash.proofs.Lent.{Fit, sector-local}
 use Rattle.flash.proofs.Every.{every-one}
 use Rattle.item.specs.Mark.{markFull, pageState}
 use Rattle.table.specs.Table.{sectorsOf}
-use Rattle.power.proofs.Read.{items-same, marked-drop, marked-sequence, to-full}
+use Rattle.item.proofs.Marked.{marked-drop, marked-sequence, to-full}
+use Rattle.page.proofs.Read.{items-same}
 
 mark-in : (u b : ℕ) → AllIn (u * 4096) (u * 4096 + 4096) (pageState (u * 4096) b ∷ [])
 mark-in u b = every-one (In (u * 4096) (u * 4096 + 4096)) _ (omega arith, omega arith)

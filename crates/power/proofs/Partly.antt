@@ -16,7 +16,7 @@ use Rattle.page.specs.Record.{recordOf}
 use Rattle.page.specs.State.{isFree, stateOf}
 use Rattle.page.specs.Walk.{Laid, itemsOf}
 use Rattle.flash.specs.Step.{Step, erase, run, sector}
-use Rattle.flash.proofs.Frame.{length-run, sector-kept}
+use Rattle.flash.proofs.Frame.{length-run, sector-kept, erase-in}
 use Rattle.item.specs.Mark.{markFull}
 use Rattle.relocate.specs.Move.{moving}
 use Rattle.lists.specs.Lists.{keep, sumOf}
@@ -26,25 +26,26 @@ use Rattle.lists.proofs.Member.{_∈_, true≢false}
 use Rattle.table.specs.declared.Page.{Page}
 use Rattle.table.specs.Table.{active, activePage, asFull, freeing, freeingPage, frees, inSector, itemsIn, pageAt, pages, sectorsOf}
 use Rattle.table.proofs.Scanning.{record-state}
-use Rattle.table.proofs.Pages.{in-pages, once, page-empty, page-state}
+use Rattle.table.proofs.Pages.{in-pages, once, page-empty, page-state, listed-items}
 use Rattle.order.specs.Order.{kept, noEmpty, ordered, ordering}
 use Rattle.finish.specs.Finish.{copyOf}
 use Rattle.finishing.specs.Finishing.{freeings}
-use Rattle.power.proofs.State.{AllFree, Good, Old, Partial, Side, Source, SourceRecord, State, Target, TargetRecord, freeings-one, full, n-same, old-full, old-in, partly, source-in, source-record, target-apart, target-in, target-page, target-record}
+use Rattle.power.proofs.State.{AllFree, Good, Old, Side, Source, SourceRecord, State, Target, TargetRecord, freeings-one, full, n-same, old-full, old-in, partly, source-in, source-record, target-apart, target-in, target-page, target-record}
+use Rattle.relocate.proofs.Copies.{Partial}
 use Rattle.power.proofs.Runs.{Runs, rec-some, run-nil, run-one}
 use Rattle.power.proofs.Lone.{Kept, Lone, kept-order, keptAs}
 use Rattle.power.proofs.Complete.{full-steps}
 use Rattle.power.proofs.Unmade.{move-runs}
 use Rattle.power.proofs.Finish.{finish-one, part-round}
-use Rattle.power.proofs.Read.{noRoom}
+use Rattle.page.proofs.Read.{noRoom}
 use Rattle.power.proofs.Marks.{m-full, m-items, m-others, m-sequence}
-use Rattle.power.proofs.Move.{blank-free, erase-in, erased-blank}
+use Rattle.item.proofs.Fresh.{blank-free}
+use Rattle.flash.proofs.Erased.{erased-blank}
 use Rattle.power.proofs.Plain.{finishOn, plain, rescan}
-use Rattle.power.proofs.Shape.{raws}
+use Rattle.item.proofs.Shape.{raws}
 use Rattle.power.proofs.Ends.{e-done, one-step, room}
 use Rattle.power.proofs.Same.{copy-is}
 use Rattle.power.proofs.Steps.{Final}
-use Rattle.power.proofs.Items.{listed-items}
 
 module _ (L : List ℕ) (s : ℕ) (G : Good L s) (small : (i : ℕ) → getD L i 0 < 256) where
   abbrev n : ℕ
@@ -186,7 +187,7 @@ module _ (L : List ℕ) (s : ℕ) (G : Good L s) (small : (i : ℕ) → getD L i
     x-source = let z = x-others s (target-apart L l t q T s (G .page)) in record { state = rw z (R .state); seq = rw z (R .seq); items = rw z (R .items) }
 
     x-free-t : isFree (stateOf (sector t lt)) ≡ true
-    x-free-t = rw (erased-blank t l (room L s G small l (D .len) t (T .here))) blank-free
+    x-free-t = rw (erased-blank l t (room L s G small l (D .len) t (T .here))) blank-free
 
     x-free : AllFree L lt
     x-free u h f = go (eqb u t) refl

@@ -28,13 +28,14 @@ use Rattle.table.proofs.Scanning.{record-state}
 use Rattle.table.proofs.Pages.{in-pages}
 use Rattle.table.proofs.Records.{record-sequence}
 use Rattle.found.specs.Found.{Found, found, foundOn, isPart}
-use Rattle.found.proofs.Keys.{key-lt, part-small}
+use Rattle.found.proofs.Keys.{key-lt}
+use Rattle.flash.proofs.Small.{part-small}
 use Rattle.power.specs.Demand3.{Premises}
 use Rattle.power.proofs.State.{Good}
 use Rattle.power.proofs.Calm.{Tidy}
 use Rattle.power.proofs.Quiet.{Still}
 use Rattle.power.proofs.Steps.{still-else}
-use Rattle.power.proofs.Items.{walk-in}
+use Rattle.page.proofs.Items.{walk-in}
 use Rattle.power.proofs.Totals.{total-found}
 
 module _ (L : List ℕ) (S : Premises L) where

@@ -18,7 +18,7 @@ use Rattle.found.specs.Found.{Found, chunks, eraseAll, versionOf}
 use Rattle.blobs.specs.Blobs.{blobSteps, bothSound, counting, dropCounting, dropVersion, judge, judgeWith, older, olderWith, sound, versionIn}
 use Rattle.duplicates.specs.Duplicates.{duplicateStage, duplicateSteps, lastMarks}
 use Rattle.quick.proofs.Idle.{newestOf}
-use Rattle.power.proofs.Read.{noRoom}
+use Rattle.page.proofs.Read.{noRoom}
 use Rattle.power.proofs.Plain.{stages}
 use Rattle.power.proofs.Zeros.{Prog}
 

@@ -26,7 +26,7 @@ use Rattle.lists.proofs.Search.{best-in, every-of, keep-in, last-in}
 use Rattle.lists.proofs.Member.{_∈_, true≢false}
 use Rattle.table.specs.declared.Page.{Page}
 use Rattle.table.specs.Table.{activePage, frees, itemsIn, pageAt, pages, sectorsOf, sequence, wholeSectors}
-use Rattle.table.proofs.Pages.{frees-in, in-pages, page-erased, pages-in}
+use Rattle.table.proofs.Pages.{frees-in, in-pages, page-erased, pages-in, listed-items}
 use Rattle.table.proofs.Records.{record-sequence}
 use Rattle.answer.specs.declared.Answer.the-variants.{ActiveStands, NotReclaimable, SequencesSpent}
 use Rattle.reclaim.specs.declared.plan.Plan.the-variants.{Clear, Move, Refuse}
@@ -35,12 +35,12 @@ use Rattle.power.specs.Demand3.{Premises}
 use Rattle.power.proofs.Runs.{run-one}
 use Rattle.power.proofs.Unmade.{move-runs}
 use Rattle.power.proofs.Finish.{Seq}
-use Rattle.power.proofs.Read.{items-same, marked-drop, marked-sequence, to-freeing}
+use Rattle.item.proofs.Marked.{marked-drop, marked-sequence, to-freeing}
+use Rattle.page.proofs.Read.{items-same}
 use Rattle.power.proofs.AllErased.{items-none}
 use Rattle.power.proofs.Ends.{e-gone}
 use Rattle.power.proofs.State.{AllFree, Good, Side, Source, State}
 use Rattle.power.proofs.Premises.{good}
-use Rattle.power.proofs.Items.{listed-items}
 use Rattle.power.proofs.Marks.{mark-sector}
 
 module _ (L : List ℕ) (S : Premises L) where

@@ -11,7 +11,7 @@ use Rattle.lists.proofs.Search.{every-is, some-is}
 use Rattle.lists.proofs.Maps.{in-map, map-in}
 use Rattle.lists.proofs.Member.{_∈_, true≢false}
 use Rattle.finish.specs.Finish.{copyOf, holdsAll, nameOf, sameBytes}
-use Rattle.power.proofs.Shape.{raws}
+use Rattle.item.proofs.Shape.{raws}
 
 -- the test of equal bytes, both ways
 pub same-refl : (xs : List ℕ) → sameBytes xs xs ≡ true

@@ -13,7 +13,7 @@ use Rattle.page.specs.declared.«record».PageRecord.{PageRecord}
 use Rattle.page.specs.declared.state.PageState.the-variants.{Active, Freeing, Full}
 use Rattle.page.specs.Record.{recordOf}
 use Rattle.page.specs.State.{isFree, sequenceOf, stateOf}
-use Rattle.page.specs.Walk.{Laid, itemsOf}
+use Rattle.page.specs.Walk.{itemsOf}
 use Rattle.flash.specs.Step.{sector}
 use Rattle.lists.proofs.Member.{_∈_, true≢false}
 use Rattle.lists.proofs.Range.{sumTo-at}
@@ -25,8 +25,7 @@ use Rattle.table.proofs.Records.{record-sequence}
 use Rattle.finish.specs.Finish.{nameOf, sameBytes}
 use Rattle.finishing.specs.Finishing.{freeings}
 use Rattle.power.specs.Demand3.{total}
-use Rattle.power.proofs.Read.{noRoom}
-use Rattle.power.proofs.Shape.{raws}
+use Rattle.item.proofs.Shape.{raws}
 
 -- the pages other than the source stand as they were
 pub record Side (L l : List ℕ) (s : ℕ) : Type 0 where
@@ -51,15 +50,6 @@ pub record Target (L l : List ℕ) (t q : ℕ) : Type 0 where
   pub seq : sequenceOf (sector t l) ≡ q
   pub above : (u : ℕ) → u < sectorsOf L → isFree (stateOf (sector u L)) ≡ false → sequenceOf (sector u L) < q
   pub bound : q ≤ 0xFFFFFFF0
-
--- each item of the target is one of the source's, and they are all there where no entry is Empty
-pub record Partial (S T : List ℕ) : Type 0 where
-  pub sub : (y : Laid) → y ∈ itemsOf T → (x : Laid) × (x ∈ itemsOf S) × (y .raw ≡ x .raw)
-  pub complete : noRoom T ≡ true → raws (itemsOf T) ≡ raws (itemsOf S)
-
--- an Active page or a Full one
-abbrev pub Settled : List ℕ → Type 0
-Settled T = (stateOf T ≡ Active) ⊎ (stateOf T ≡ Full)
 
 -- the images: none of them fixes the target or its sequence, so recovery may take another
 pub data State (L : List ℕ) (s : ℕ) (l : List ℕ) : Type 0 where

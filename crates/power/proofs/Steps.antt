@@ -22,15 +22,16 @@ use Rattle.lists.proofs.Range.{sumTo-ext, sumTo-one-le, sumTo-two, sumTo-two-le
 use Rattle.table.specs.Table.{active, freeing, frees, sectorsOf}
 use Rattle.table.proofs.Pages.{length-frees}
 use Rattle.power.specs.Demand3.{total}
-use Rattle.power.proofs.State.{AllFree, Good, Partial, Settled, Side, Source, State, Target, done, full, junk, partly, target-apart}
-use Rattle.power.proofs.Move.{Cut, blank-free, ended, going, ready, unmade}
+use Rattle.power.proofs.State.{AllFree, Good, Side, Source, State, Target, done, full, junk, partly, target-apart}
+use Rattle.relocate.proofs.Copies.{Partial, Settled, going-active, going-partial, going-seq, items-fine, ready-items, ready-seq, ready-settled, spans}
+use Rattle.relocate.proofs.Move.{Cut, ended, going, ready, unmade}
+use Rattle.item.proofs.Fresh.{blank-free}
 use Rattle.power.proofs.Lone.{Lone}
 use Rattle.power.proofs.Quiet.{Rest, Still, still-rest}
 use Rattle.power.proofs.Finish.{Seq}
-use Rattle.power.proofs.Shape.{AllFine, raws}
-use Rattle.power.proofs.Items.{free-none}
-use Rattle.found.proofs.Keys.{part-small}
-use Rattle.power.proofs.Copies.{going-active, going-partial, going-seq, items-fine, ready-items, ready-seq, ready-settled, spans}
+use Rattle.item.proofs.Shape.{AllFine, raws}
+use Rattle.page.proofs.Items.{free-none}
+use Rattle.flash.proofs.Small.{part-small}
 use Rattle.power.proofs.Totals.{onSector, total-sectors}
 
 -- 1 where sector u is free

@@ -12,11 +12,11 @@ use Rattle.lists.proofs.Maps.{sum-flatMap, sum-map}
 use Rattle.lists.proofs.Range.{sumTo-ext}
 use Rattle.table.specs.declared.Page.{Page}
 use Rattle.table.specs.Table.{itemsIn, pages, sectorsOf}
-use Rattle.table.proofs.Pages.{sum-pages}
+use Rattle.table.proofs.Pages.{sum-pages, listed-items}
 use Rattle.found.specs.Found.{Found, found, foundOn}
 use Rattle.power.specs.Demand3.{stored, total}
 use Rattle.quick.specs.Calm.{tot}
-use Rattle.power.proofs.Items.{free-none, listed-items}
+use Rattle.page.proofs.Items.{free-none}
 
 -- f summed over the items of sector u
 abbrev pub onSector : (List ℕ → ℕ) → List ℕ → ℕ → ℕ

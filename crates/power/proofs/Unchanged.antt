@@ -23,10 +23,11 @@ use Rattle.found.specs.Found.{Found, found, foundOn}
 use Rattle.blobs.specs.Blobs.{blobSteps}
 use Rattle.duplicates.specs.Duplicates.{duplicateStage, duplicateSteps, lastMarks}
 use Rattle.finishing.specs.Finishing.{freeings}
-use Rattle.power.proofs.Items.{IsItem, Real, raw-span, walk-in}
+use Rattle.page.proofs.Walking.{raw-span}
+use Rattle.page.proofs.Items.{IsItem, Real, is-item, walk-in}
 use Rattle.power.proofs.Quiet.{freeings-none, no-kept, order-none}
 use Rattle.power.proofs.Hits.{Hit, Spanned, blobs-hit, dup-hit, hit-left}
-use Rattle.power.proofs.Read.{noRoom}
+use Rattle.page.proofs.Read.{noRoom}
 use Rattle.power.proofs.Plain.{onward, plain, stages}
 use Rattle.power.proofs.Zeros.{Prog, hit-zero}
 use Rattle.power.proofs.Programs.{stage-prog}
@@ -57,7 +58,7 @@ module _ (L : List ℕ) (na : (p : Page) → p ∈ pages L → activePage p ≡ 
     where
       at : (x : Found) (p : Page) (i : Laid) → p .sector < sectorsOf L → Real (sector (p .sector) L) i
           → x ≡ record { sector = p .sector; sequence = p .seen .sequence; entry = i .entry; raw = i .raw } → At x
-      at x p i h r e = rw e (h, r .is, rw (r .bytes) (let a = raw-span (sector (p .sector) L) (i .entry) (r .is) in let b = r .is .some in omega arith))
+      at x p i h r e = rw e (h, r .is, rw (r .bytes) (let a = raw-span (sector (p .sector) L) (i .entry) (is-item (sector (p .sector) L) (i .entry) (r .is)) in let b = r .is .some in omega arith))
 
   spanned : Spanned fs
   spanned x m = found-at x m .2

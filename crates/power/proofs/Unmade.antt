@@ -24,13 +24,14 @@ use Rattle.finishing.specs.Finishing.{freeings}
 use Rattle.power.proofs.Runs.{Runs, rec-none}
 use Rattle.power.proofs.Quiet.{no-kept}
 use Rattle.power.proofs.Finish.{Seq, finish-one, junk-round}
-use Rattle.power.proofs.Move.{blank-free, move-cut, move-end}
+use Rattle.relocate.proofs.Move.{move-cut, move-end}
+use Rattle.item.proofs.Fresh.{blank-free}
 use Rattle.power.proofs.Plain.{plain, rescan}
-use Rattle.power.proofs.Shape.{raws}
+use Rattle.item.proofs.Shape.{raws}
 use Rattle.power.proofs.Ends.{e-gone, one-step, room}
 use Rattle.power.proofs.State.{AllFree, Good, Old, Side, Source, SourceRecord, State, freeings-one, junk, junk-page, old-full, old-in, source-in, source-record}
 use Rattle.power.proofs.Steps.{Final, X-fine, cut-state, done-final, q-small, side-of, target-of}
-use Rattle.power.proofs.Copies.{Ready, ready-items, ready-seq, ready-settled}
+use Rattle.relocate.proofs.Copies.{Ready, ready-items, ready-seq, ready-settled}
 
 module _ (L : List ℕ) (s : ℕ) (G : Good L s) (small : (i : ℕ) → getD L i 0 < 256) where
   abbrev n : ℕ

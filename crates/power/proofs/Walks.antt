@@ -16,7 +16,7 @@ use Rattle.page.specs.Walk.{Laid, isItem, itemsOf, laidAt, onFrom, walk}
 use Rattle.page.proofs.Walking.{goes-on, item-span, walk-item, walk-past, walk-skip}
 use Rattle.lists.specs.Lists.{keep}
 use Rattle.lists.proofs.Member.{_∈_}
-use Rattle.power.proofs.Items.{no-item}
+use Rattle.page.proofs.Items.{no-item}
 use Rattle.power.proofs.Once.{but, items-in, walk-from}
 
 -- a turn of the walk, and what is left of it without entry e

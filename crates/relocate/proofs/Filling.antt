@@ -10,22 +10,20 @@ use Rattle.page.specs.Walk.{Laid, walk}
 use Rattle.flash.specs.Step.{Step, erase, run, sector, apply}
 use Rattle.flash.specs.Words.{word, words}
 use Rattle.flash.proofs.Erased.{length-sector}
-use Rattle.flash.proofs.Every.{every-append, every-one}
-use Rattle.flash.proofs.Frame.{In, length-run, sector-kept}
+use Rattle.flash.proofs.Every.{every-append}
+use Rattle.flash.proofs.Frame.{erase-in, length-run, sector-kept}
 use Rattle.flash.proofs.Laws.{run-append}
 use Rattle.flash.proofs.Lent.{shift, Fit, AllFit, shift-append, sector-local}
 use Rattle.flash.proofs.Lower.{fit-le, word-le}
 use Rattle.flash.proofs.Words.{words-fit, words-more}
 use Rattle.item.specs.Initialise.{clearing, header, initialising}
+use Rattle.item.proofs.Fresh.{initSteps}
 use Rattle.item.proofs.Header.{header-sequence}
 use Rattle.item.proofs.Local.{header-fit, header-shift}
 use Rattle.relocate.specs.Move.{copies, moving}
 use Rattle.relocate.proofs.Local.{copies-shift, copies-fit}
 
--- the words of the header, the state word last
-abbrev pub initSteps : ℕ → List Step
-initSteps q = words 0 (header q) 1 7 ++ words 0 (header q) 0 1
-
+-- the header, then the items
 abbrev pub fill : ℕ → List Laid → List Step
 fill q xs = initSteps q ++ copies 0 0 xs
 
@@ -71,7 +69,7 @@ module _ (q : ℕ) (x : List ℕ) where
       let n = run (shift (t * 4096) (fill q (walk x 126 0))) m in
       let len : length (sector t m) ≡ 4096 = length-sector t m ∙ (let z = length-run (clearing t l) l in omega arith) in
       let kept : sector t (run (erase s ∷ []) n) ≡ sector t n =
-      sector-kept t s (erase s ∷ []) n (λ e. ne (sym e)) (every-one (In (s * 4096) (s * 4096 + 4096)) (erase s) (omega arith, omega arith)) in
+      sector-kept t s (erase s ∷ []) n (λ e. ne (sym e)) (erase-in s) in
       let made = kept ∙ sector-local t (fill q (walk x 126 0)) m fill-fit in
       let h = header-sequence q small in
       let r = filled-sequence (sector t m) len in

@@ -11,13 +11,14 @@ use borrow.Author.Tests.{eqb-false, eqb-true, ne-eqb}
 use Rattle.entry.specs.States.{countState, empty, one}
 use Rattle.page.specs.declared.state.PageState.{PageState}
 use Rattle.page.specs.State.{isFree, stateOf}
+use Rattle.page.specs.Walk.{itemsOf}
 use Rattle.flash.specs.Step.{sector}
 use Rattle.lists.specs.Lists.{sumOf, sumTo}
 use Rattle.lists.proofs.Sums.{sum-append}
 use Rattle.lists.proofs.Member.{_∈_, cond-same, in-append, in-left, in-right}
 use Rattle.lists.proofs.Range.{sumTo-only}
 use Rattle.table.specs.declared.Page.{Page}
-use Rattle.table.specs.Table.{frees, freesTo, inSector, pageAt, pages, pagesTo, sectorsOf}
+use Rattle.table.specs.Table.{frees, freesTo, inSector, itemsIn, pageAt, pages, pagesTo, sectorsOf}
 use Rattle.table.proofs.Scanning.{record-state}
 use Rattle.table.proofs.Records.{record-empty, record-erased}
 
@@ -142,3 +143,8 @@ module _ (l : List ℕ) where
       cond-one true c = omega arith
       cond-one false true = omega arith
       cond-one false false = omega arith
+
+-- of a page that is listed the walk's items are all
+pub listed-items : (u : ℕ) (l : List ℕ) → isFree (stateOf (sector u l)) ≡ false → itemsIn u l ≡ itemsOf (sector u l)
+unfolding itemsIn itemsOf
+listed-items u l e = rw e

@@ -1,29 +1,22 @@
 -- What is read of a sector's bytes, and which bytes each reading goes by. Assumes nothing.
 use mathlib.Core.Path.{_∙_, _≡_, ap, refl, sym}
-use mathlib.Core.Logic.{inr}
-use mathlib.Core.Bool.{Bool, _&&_, cond, false, true}
+use mathlib.Core.Bool.{Bool, _&&_, cond, false, false≢true, true}
 use mathlib.Core.List.{List, [], _∷_}
 use Prim.Native.Nat.{_%_, _*_, _+_, _/_, _<_, _^_, _≤_, suc, zero, ℕ}
 use native.Mathlib.Omega.{arith}
 use lib.Dec.{eqb}
-use lib.ListN.{drop, getD, length, length-drop, take}
-use lib.Seq.{drop-drop, ext-getD, getD-drop, getD-take, take-take}
+use lib.ListN.{drop, getD, length, take}
+use lib.Seq.{drop-drop, getD-drop, getD-take, take-take}
 use borrow.Author.Tests.{eqb-true}
 use Rattle.word.specs.Number.{le, part}
 use Rattle.word.proofs.Bytes.{le-part, part-byte}
 use Rattle.entry.specs.States.{countState, empty, stateAt}
-use Rattle.page.specs.declared.state.PageState.{PageState}
-use Rattle.page.specs.declared.state.PageState.the-variants.{Active, Blank, Corrupt, Freeing, Full}
-use Rattle.page.specs.State.{allOnes, headerRight, isFree, sequenceOf, stateOf, wordState}
-use Rattle.page.specs.Walk.{isItem, itemsOf, walk}
-use Rattle.page.proofs.Tests.{both-first, both-second}
-use Rattle.flash.specs.Step.{Step, and8, apply, run}
-use Rattle.flash.proofs.Frame.{AllIn, In, length-run, run-other}
-use Rattle.flash.proofs.Every.{every-one}
-use Rattle.flash.proofs.Bytes.{nth4, word-byte}
-use Rattle.item.specs.Mark.{pageState}
-use Rattle.item.proofs.Ones.{ones-byte}
 use Rattle.lists.proofs.Member.{true≢false}
+use Rattle.page.specs.declared.state.PageState.{PageState}
+use Rattle.page.specs.declared.state.PageState.the-variants.{Active, Blank, Corrupt, Freeing, Full}
+use Rattle.page.specs.State.{allOnes, headerRight, isFree, sequenceOf, stateOf, wordState}
+use Rattle.page.specs.Walk.{isItem, itemsOf, walk}
+use Rattle.page.proofs.Tests.{both-first, both-second}
 
 -- no entry of the sector is Empty
 abbrev pub noRoom : List ℕ → Bool
@@ -126,6 +119,18 @@ state-inv T M e f = used (allOnes T) e
     used true k = absurd (true≢false (ap isFree (sym k)) f)
     used false k = right (headerRight T) refl k
 
+-- bytes that are all ones are each 0xFF
+pub ones-byte : (l : List ℕ) → allOnes l ≡ true → (i : ℕ) → i < length l → getD l i 0 ≡ 0xFF
+unfolding allOnes
+ones-byte [] e i h = absurd (omega arith)
+ones-byte (x ∷ l) e i h = go (eqb x 0xFF) refl e i h (ones-byte l)
+  where
+    go : (b : Bool) → eqb x 0xFF ≡ b → b && allOnes l ≡ true → (i : ℕ) → i < suc (length l)
+        → (allOnes l ≡ true → (i : ℕ) → i < length l → getD l i 0 ≡ 0xFF) → getD (x ∷ l) i 0 ≡ 0xFF
+    go true q e zero h others = eqb-true x 0xFF q
+    go true q e (suc i) h others = others e i (omega arith)
+    go false q e i h others = absurd (false≢true e)
+
 -- bytes of which the first is no 0xFF are not all ones
 not-ones : (T : List ℕ) (b : ℕ) → Word4 T b → (b ≡ 0xFF → ⊥) → allOnes T ≡ false
 not-ones T b w ne = go (allOnes T) refl
@@ -153,52 +158,3 @@ state-free T e = go (allOnes T) (headerRight T) (upper T) refl
     go false false c q = refl
     go false true true q = rw (word-by T, q, e)
     go false true false q = rw (word-by T, q)
-
--- ---- marking
-
--- steps leave what stands behind them
-pub drop-stays : (a b p : ℕ) (ss : List Step) (l : List ℕ) → AllIn a b ss → b ≤ p → drop p (run ss l) ≡ drop p l
-drop-stays a b p ss l h k =
-    ext-getD 0 _ _ (simp (length-drop, length-run)) (λ i g. getD-drop p (run ss l) i 0 ∙ run-other a b ss l (p + i) h (inr (omega arith)) ∙ sym (getD-drop p l i 0))
-
-module _ (T : List ℕ) (b : ℕ) (h : 4 ≤ length T) where
-  abbrev marked : List ℕ
-  marked = run (pageState 0 b ∷ []) T
-
-  mark-in : AllIn 0 4 (pageState 0 b ∷ [])
-  mark-in = every-one (In 0 4) _ (omega arith, omega arith)
-
-  -- a mark leaves all but the state word
-  pub marked-drop : (p : ℕ) → 4 ≤ p → drop p marked ≡ drop p T
-  marked-drop p k = drop-stays 0 4 p (pageState 0 b ∷ []) T mark-in k
-
-  marked-byte : (i : ℕ) → i < 4 → getD marked i 0 ≡ and8 (getD T i 0) (nth4 b 0xFF 0xFF 0xFF i)
-  unfolding run apply
-  marked-byte i k = let z : 0 + i ≡ i = omega arith in rw z at (word-byte T 0 b 0xFF 0xFF 0xFF i k h)
-
-  pub marked-word : (x y : ℕ) → Word4 T x → and8 x b ≡ y → Word4 marked y
-  unfolding and8
-  marked-word x y w e = (
-    marked-byte 0 (omega arith) ∙ rw (w .0) e,
-    marked-byte 1 (omega arith) ∙ rw (w .1),
-    marked-byte 2 (omega arith) ∙ rw (w .2),
-    marked-byte 3 (omega arith) ∙ rw (w .3),
-  )
-
-  marked-header : part marked 4 28 ≡ part T 4 28
-  marked-header = ap (take 28) (marked-drop 4 (omega arith))
-
-  marked-state : (x y : ℕ) → (y ≡ 0xFF → ⊥) → headerRight T ≡ true → Word4 T x → and8 x b ≡ y → stateOf marked ≡ wordBy y true
-  marked-state x y ne g w e = state-is marked y ne (right-same T marked marked-header ∙ g) (marked-word x y w e)
-
-  pub marked-sequence : sequenceOf marked ≡ sequenceOf T
-  marked-sequence = sequence-same T marked marked-header
-
--- Full to Freeing, Active to Full
-pub to-freeing : (T : List ℕ) → 4 ≤ length T → stateOf T ≡ Full → stateOf (run (pageState 0 0xF8 ∷ []) T) ≡ Freeing
-unfolding and8
-to-freeing T h e = let i = state-inv T Full e refl in marked-state T 0xF8 h 0xFC 0xF8 (λ q. omega arith) (i .0) (i .1) refl
-
-pub to-full : (T : List ℕ) → 4 ≤ length T → stateOf T ≡ Active → stateOf (run (pageState 0 0xFC ∷ []) T) ≡ Full
-unfolding and8
-to-full T h e = let i = state-inv T Active e refl in marked-state T 0xFC h 0xFE 0xFC (λ q. omega arith) (i .0) (i .1) refl

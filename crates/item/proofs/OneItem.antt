@@ -1,32 +1,32 @@
 -- One item copied into the target: every cut of it, and its end. Assumes nothing.
-use mathlib.Core.Path.{_∙_, _≡_, ap, refl, sym}
+use mathlib.Core.Path.{_∙_, _≡_, refl, sym}
 use mathlib.Core.Logic.{_⊎_, inl, inr, ⊎-elim}
 use mathlib.Core.List.{List, [], _++_, _∷_}
 use Prim.Native.Nat.{_*_, _+_, _<_, _≤_, suc, ℕ}
 use native.Mathlib.Omega.{arith}
-use lib.Count.{ones}
 use lib.ListN.{getD, length, length-drop, length-take, take}
-use lib.Seq.{ext-getD, take-all, take-nil}
+use lib.Seq.{ext-getD, take-nil}
 use Rattle.word.specs.Number.{part}
 use Rattle.word.proofs.Bytes.{part-byte}
 use Rattle.entry.specs.States.{stateAt, written}
 use Rattle.entry.specs.Fields.{spanOf}
+use Rattle.page.proofs.Read.{Word4}
 use Rattle.flash.specs.Step.{Step, and8, run}
 use Rattle.flash.specs.Words.{words}
 use Rattle.flash.proofs.Frame.{AllIn, In, length-run, part-kept, run-other}
-use Rattle.flash.proofs.Words.{words-in, words-read}
+use Rattle.flash.proofs.Words.{words-read}
 use Rattle.flash.proofs.Laws.{cut-append, run-append}
 use Rattle.flash.proofs.Order.{le-or-gt}
-use Rattle.flash.proofs.Every.{every-none, every-one, every-take}
+use Rattle.flash.proofs.Every.{every-take}
 use Rattle.item.specs.Copy.{copying, fullMark}
 use Rattle.item.specs.States.{marking}
-use Rattle.item.proofs.Spans.{marking-first, marking-in, marking-keeps}
+use Rattle.item.proofs.Spans.{marking-first, marking-in, marking-keeps, marking-whole}
 use Rattle.item.proofs.Turns.{full-no, full-yes}
-use Rattle.power.proofs.Read.{Word4, marked-word}
-use Rattle.power.proofs.Shape.{Fine, Shape, fine-append, laid-keep, laid-snoc, shape-marked, shape-words, word-keep}
+use Rattle.item.proofs.Packed.{Packed, item-packed, item-words-in}
+use Rattle.item.proofs.Marked.{marked-word}
+use Rattle.item.proofs.Shape.{Fine, Shape, fine-append, laid-keep, laid-snoc, shape-marked, shape-words, word-keep}
 
-module _ (q : ℕ) (T : List ℕ) (ys : List (List ℕ)) (p : ℕ) (H : Shape q T ys p) (r : List ℕ) (F : Fine r) (fit : p + spanOf r ≤ 126)
-    (ones : (i : ℕ) → 64 + p * 32 ≤ i → i < 4096 → getD T i 0 ≡ 0xFF) where
+module _ (q : ℕ) (T : List ℕ) (ys : List (List ℕ)) (p : ℕ) (H : Shape q T ys p) (r : List ℕ) (F : Fine r) (fit : p + spanOf r ≤ 126) (K : Packed T p) where
   abbrev n : ℕ
   n = spanOf r
 
@@ -39,15 +39,12 @@ module _ (q : ℕ) (T : List ℕ) (ys : List (List ℕ)) (p : ℕ) (H : Shape q 
   abbrev T1 : List ℕ
   T1 = run ws T
 
-  ws-in : AllIn (64 + p * 32) (64 + (p + n) * 32) ws
-  ws-in = words-in (0 + 64 + p * 32) r _ _ 0 (n * 8) (omega arith) (omega arith)
-
   shape-T1 : Shape q T1 ys p
-  shape-T1 = shape-words q T ys p (64 + (p + n) * 32) ws ws-in H
+  shape-T1 = shape-words q T ys p (64 + (p + n) * 32) ws (item-words-in p r) H
 
   read-T1 : (j : ℕ) → j < n * 32 → getD T1 (64 + p * 32 + j) 0 ≡ getD r j 0
   read-T1 j h =
-      words-read (0 + 64 + p * 32) r T 0 (n * 8) (let a = H .len in omega arith) (F .small) (λ i a b. ones (0 + 64 + p * 32 + i) (omega arith) (omega arith)) j (omega arith) (omega arith)
+      words-read (0 + 64 + p * 32) r T 0 (n * 8) (let a = H .len in omega arith) (F .small) (λ i a b. K .ones-from (0 + 64 + p * 32 + i) (omega arith) (omega arith)) j (omega arith) (omega arith)
 
   -- any steps on the state map keep what is read of the item's bytes
   raw-in : (T2 : List ℕ) → length T2 ≡ 4096 → ((i : ℕ) → 64 ≤ i → getD T2 i 0 ≡ getD T1 i 0) → part T2 (64 + p * 32) (n * 32) ≡ r
@@ -87,22 +84,22 @@ module _ (q : ℕ) (T : List ℕ) (ys : List (List ℕ)) (p : ℕ) (H : Shape q 
   abbrev ys′ : List (List ℕ)
   ys′ = ys ++ (r ∷ [])
 
-  all-st : take (suc (length st)) st ≡ st
-  all-st = take-all (suc (length st)) st (omega arith)
-
   shape-T2 : Shape q (run st T1) ys′ (p + n)
-  shape-T2 = rw all-st at (shape-states (length st))
+  shape-T2 = rw (marking-whole 0 p n) at (shape-states (length st))
+
+  packed-T3 : Packed (run fm (run st T1)) (p + n)
+  packed-T3 = item-packed T p r K (F .some) fit
 
   module _ (W : Word4 T 0xFE) where
     word-T1 : Word4 T1 0xFE
-    word-T1 = word-keep ws T (64 + p * 32) (64 + (p + n) * 32) 0xFE ws-in (omega arith) W
+    word-T1 = word-keep ws T (64 + p * 32) (64 + (p + n) * 32) 0xFE (item-words-in p r) (omega arith) W
 
     word-T2 : Word4 (run st T1) 0xFE
     word-T2 = word-keep st T1 32 64 0xFE st-in (omega arith) word-T1
 
     -- the Full mark where it is due
     abbrev Ended : List ℕ → Type 0
-    Ended T3 = Shape q T3 ys′ (p + n) × (((p + n < 126) × Word4 T3 0xFE) ⊎ ((p + n ≡ 126) × Word4 T3 0xFC))
+    Ended T3 = Shape q T3 ys′ (p + n) × Packed T3 (p + n) × (((p + n < 126) × Word4 T3 0xFE) ⊎ ((p + n ≡ 126) × Word4 T3 0xFC))
 
     end-T3 : Ended (run fm (run st T1))
     unfolding and8
@@ -110,10 +107,14 @@ module _ (q : ℕ) (T : List ℕ) (ys : List (List ℕ)) (p : ℕ) (H : Shape q 
       where
         yes : p + n ≡ 126 → Ended (run fm (run st T1))
         yes e =
-            rw (full-yes 0 (p + n) e) (shape-marked q (run st T1) ys′ (p + n) shape-T2, inr (e, marked-word (run st T1) 0xFC (let l2 = shape-T2 .len in omega arith) 0xFE 0xFC word-T2 refl))
+            let k = rw (full-yes 0 (p + n) e) at packed-T3 in
+            rw (full-yes 0 (p + n) e) (shape-marked q (run st T1) ys′ (p + n) shape-T2, k, inr (e, marked-word (run st T1) 0xFC (let l2 = shape-T2 .len in omega arith) 0xFE 0xFC word-T2 refl))
 
         not : p + n < 126 → Ended (run fm (run st T1))
-        not h = rw (full-no 0 (p + n) (λ e. omega arith)) (unfold run in (shape-T2, inl (h, word-T2)))
+        not h =
+            let d : (p + n ≡ 126 → ⊥) = (λ e. omega arith) in
+            let k = rw (full-no 0 (p + n) d) at packed-T3 in
+            rw (full-no 0 (p + n) d) (unfold run in (shape-T2, k, inl (h, word-T2)))
 
     -- the end: the item is laid, and the page marked Full where it is used up
     pub item-end : Ended (run (copying 0 p r) T)
@@ -129,7 +130,7 @@ module _ (q : ℕ) (T : List ℕ) (ys : List (List ℕ)) (p : ℕ) (H : Shape q 
       where
         in-words : (k : ℕ) → Shape q (run (take k ws) T) ys p × Word4 (run (take k ws) T) 0xFE
         in-words k =
-            let i = every-take (In (64 + p * 32) (64 + (p + n) * 32)) k ws ws-in in
+            let i = every-take (In (64 + p * 32) (64 + (p + n) * 32)) k ws (item-words-in p r) in
             (shape-words q T ys p (64 + (p + n) * 32) (take k ws) i H, word-keep (take k ws) T (64 + p * 32) (64 + (p + n) * 32) 0xFE i (omega arith) W)
 
         past-full : (j : ℕ) → Ended (run (take (suc j) fm) (run st T1))
@@ -147,18 +148,3 @@ module _ (q : ℕ) (T : List ℕ) (ys : List (List ℕ)) (p : ℕ) (H : Shape q 
             (λ e. inl (rw e (shape-states j, word-keep (take (suc j) st) T1 32 64 0xFE (every-take (In 32 64) (suc j) st st-in) (omega arith) word-T1)))
             (λ e. inr (rw (e .1) (rw (run-append st (take (suc (e .0)) fm) T1) (past-full (e .0)))))
             (cut-append (suc j) st fm)
-
-    -- behind the item the bytes are as they were
-    pub item-ones : (i : ℕ) → 64 + (p + n) * 32 ≤ i → i < 4096 → getD (run (copying 0 p r) T) i 0 ≡ 255
-    unfolding copying
-    item-ones i a b =
-        ap (λ (z : List ℕ). getD z i 0) (run-append ws (st ++ fm) T ∙ run-append st fm T1)
-        ∙ run-other 0 4 fm (run st T1) i full-in (inr (omega arith))
-        ∙ run-other 32 64 st T1 i st-in (inr (omega arith))
-        ∙ run-other (64 + p * 32) (64 + (p + n) * 32) ws T i ws-in (inr a)
-        ∙ ones i (omega arith) b
-      where
-        full-in : AllIn 0 4 fm
-        full-in =
-            ⊎-elim (λ h. rw (full-yes 0 (p + n) (omega arith)) (every-one (In 0 4) _ (omega arith, omega arith)))
-            (λ h. rw (full-no 0 (p + n) (λ e. omega arith)) (every-none (In 0 4))) (le-or-gt 126 (p + n))

@@ -1,23 +1,19 @@
--- What the walk finds: an item is Written, its header is right and its span ends on the page, and its bytes begin with the header. Assumes nothing.
-use mathlib.Core.Path.{_∙_, _≡_, refl, sym}
+-- What the walk finds: an item is Written, its header is right and its span ends on the page. Assumes nothing.
+use mathlib.Core.Path.{_≡_, refl}
 use mathlib.Core.Logic.{inl, inr}
 use mathlib.Core.Bool.{Bool, _&&_, cond, false, true}
 use mathlib.Core.List.{List, [], _∷_}
-use Prim.Native.Nat.{_*_, _+_, _<_, _≤_, suc, zero, ℕ}
+use Prim.Native.Nat.{_+_, _<_, _≤_, suc, zero, ℕ}
 use native.Mathlib.Omega.{arith}
 use lib.Dec.{eqb}
-use lib.ListN.{getD}
 use borrow.Author.Tests.{eq-eqb, eqb-true, le-leb}
-use Rattle.word.proofs.Bytes.{part-byte}
 use Rattle.entry.specs.States.{stateAt, written}
 use Rattle.entry.specs.Fields.{entryAt, spanOf}
-use Rattle.page.specs.State.{isFree, stateOf}
-use Rattle.page.specs.Walk.{Laid, fits, isItem, itemsOf, laidAt, onFrom, readable, rightHeader, walk}
-use Rattle.page.proofs.Tests.{both-first, both-is, both-second}
-use Rattle.page.proofs.Walking.{item-span}
-use Rattle.flash.specs.Step.{sector}
 use Rattle.lists.proofs.Member.{_∈_, refuted}
-use Rattle.table.specs.Table.{itemsIn}
+use Rattle.page.specs.State.{isFree, stateOf}
+use Rattle.page.specs.Walk.{Laid, fits, isItem, itemsOf, laidAt, onFrom, readable, rightHeader, walk}
+use Rattle.page.proofs.Tests.{both-first, both-is, both-second}
+use Rattle.page.proofs.Walking.{item-span}
 
 -- the bytes of the item at entry i, header and payload
 abbrev pub rawAt : List ℕ → ℕ → List ℕ
@@ -70,21 +66,7 @@ walk-in t (suc n) i x m = go (isItem t i) refl m (walk-in t n (onFrom t i) x)
     go true q (inr k) f = f k
     go false q k f = f k
 
--- its bytes begin with the header, so it has the header's span
-pub raw-byte : (t : List ℕ) (i j : ℕ) → IsItem t i → j < 32 → getD (rawAt t i) j 0 ≡ getD (entryAt t i) j 0
-raw-byte t i j h k =
-    let a = h .some in
-    part-byte t (64 + i * 32) (spanOf (entryAt t i) * 32) j (omega arith) ∙ sym (part-byte t (64 + i * 32) 32 j k)
-
-pub raw-span : (t : List ℕ) (i : ℕ) → IsItem t i → spanOf (rawAt t i) ≡ spanOf (entryAt t i)
-raw-span t i h = raw-byte t i 2 h (omega arith)
-
--- "A Blank or Corrupt sector has none"; of a page that is listed the walk's items are all
+-- "A Blank or Corrupt sector has none"
 pub free-none : (t : List ℕ) → isFree (stateOf t) ≡ true → itemsOf t ≡ []
 unfolding itemsOf
 free-none t e = rw e
-
--- of a page that is listed the walk's items are all
-pub listed-items : (u : ℕ) (l : List ℕ) → isFree (stateOf (sector u l)) ≡ false → itemsIn u l ≡ itemsOf (sector u l)
-unfolding itemsIn itemsOf
-listed-items u l e = rw e

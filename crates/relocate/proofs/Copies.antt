@@ -8,26 +8,27 @@ use native.Mathlib.Omega.{arith}
 use lib.ListN.{drop, getD, length, length-drop, length-take, take}
 use lib.Seq.{take-nil, take-take}
 use Rattle.entry.specs.Fields.{entryAt, spanOf}
-use Rattle.page.specs.declared.state.PageState.the-variants.{Active}
+use Rattle.lists.specs.Lists.{sumOf}
+use Rattle.lists.proofs.Maps.{in-map, map-in}
+use Rattle.lists.proofs.Member.{_∈_, in-left, true≢false}
+use Rattle.page.specs.declared.state.PageState.the-variants.{Active, Full}
 use Rattle.page.specs.State.{isFree, sequenceOf, stateOf}
 use Rattle.page.specs.Walk.{Laid, isItem, itemsOf, laidAt, onFrom, rightHeader, walk}
+use Rattle.page.proofs.Walking.{raw-span}
+use Rattle.page.proofs.Items.{IsItem, is-item, item-is, rawAt}
+use Rattle.page.proofs.Read.{Word4, noRoom}
 use Rattle.flash.specs.Step.{Step, run}
 use Rattle.flash.proofs.Laws.{cut-append, run-append}
 use Rattle.flash.proofs.Lent.{AllFit, Fit}
 use Rattle.flash.proofs.Order.{le-or-gt}
 use Rattle.flash.proofs.Every.{every-append, every-none}
-use Rattle.found.proofs.Keys.{part-small}
+use Rattle.flash.proofs.Small.{part-small}
 use Rattle.item.specs.Copy.{copying}
 use Rattle.item.proofs.Local.{copying-fit}
+use Rattle.item.proofs.Packed.{Packed}
+use Rattle.item.proofs.Shape.{AllFine, Fine, Rows, Shape, raws, shape-active, shape-full, shape-items, shape-room, shape-sequence}
+use Rattle.item.proofs.OneItem.{item-cut, item-end}
 use Rattle.relocate.specs.Move.{copies}
-use Rattle.lists.specs.Lists.{sumOf}
-use Rattle.lists.proofs.Maps.{in-map, map-in}
-use Rattle.lists.proofs.Member.{_∈_, in-left, true≢false}
-use Rattle.power.proofs.Items.{IsItem, item-is, raw-span, rawAt}
-use Rattle.power.proofs.Read.{Word4}
-use Rattle.power.proofs.Shape.{AllFine, Fine, Shape, raws, shape-active, shape-full, shape-items, shape-room, shape-sequence}
-use Rattle.power.proofs.State.{Partial, Settled}
-use Rattle.power.proofs.OneItem.{item-cut, item-end, item-ones}
 
 -- how many entries they take
 abbrev pub spans : List (List ℕ) → ℕ
@@ -44,55 +45,66 @@ pub record Going (q : ℕ) (R : List (List ℕ)) (T : List ℕ) : Type 0 where
   pub fit : p + spans more ≤ 126
   pub fine : AllFine more
 
--- all is laid: the page is Active and has room, or it is Full
+-- all is laid, and its entries are Written with the sector blank behind them: the page is Active and has room, or it is Full
 pub record Ready (q : ℕ) (R : List (List ℕ)) (T : List ℕ) : Type 0 where
   pub p : ℕ
   pub shape : Shape q T R p
+  pub packed : Packed T p
   pub word : ((p < 126) × Word4 T 0xFE) ⊎ Word4 T 0xFC
+
+-- it is packed up to where the items end
+rows-end : (T : List ℕ) (j : ℕ) (rs : List (List ℕ)) (p : ℕ) → Rows T j rs p → p ≡ j + spans rs
+unfolding sumOf
+rows-end T j [] p e = omega arith
+rows-end T j (r ∷ rs) p e = let a = rows-end T (j + spanOf r) rs p (e .2) in omega arith
+
+pub ready-packed : (q : ℕ) (R : List (List ℕ)) (T : List ℕ) → Ready q R T → Packed T (spans R)
+ready-packed q R T D =
+    let e = rows-end T 0 R (D .p) (D .shape .laid) in
+    let z : D .p ≡ spans R = omega arith in
+    rw z at (D .packed)
 
 module _ (q : ℕ) (R : List (List ℕ)) where
   -- all items copied
   pub copies-end : (T : List ℕ) (ys : List (List ℕ)) (p : ℕ) (xs : List Laid) → Shape q T ys p → (p < 126) → Word4 T 0xFE
-      → ((i : ℕ) → 64 + p * 32 ≤ i → i < 4096 → getD T i 0 ≡ 0xFF)
-      → ys ++ raws xs ≡ R → p + spans (raws xs) ≤ 126 → AllFine (raws xs) → Ready q R (run (copies 0 p xs) T)
+      → Packed T p → ys ++ raws xs ≡ R → p + spans (raws xs) ≤ 126 → AllFine (raws xs) → Ready q R (run (copies 0 p xs) T)
   unfolding copies run sumOf
-  copies-end T ys p [] H h W on e f F = let z : ys ≡ R = sym (append-nil ys) ∙ e in record { p = p; shape = rw z at H; word = inl (h, W) }
-  copies-end T ys p (x ∷ xs) H h W on e f F =
+  copies-end T ys p [] H h W K e f F = let z : ys ≡ R = sym (append-nil ys) ∙ e in record { p = p; shape = rw z at H; packed = K; word = inl (h, W) }
+  copies-end T ys p (x ∷ xs) H h W K e f F =
       let r = x .raw in
       let T′ = run (copying 0 p r) T in
-      let d = item-end q T ys p H r (F .0) (omega arith) on W in
+      let d = item-end q T ys p H r (F .0) (omega arith) K W in
       let a : (ys ++ (r ∷ [])) ++ raws xs ≡ R = append-assoc ys (r ∷ []) (raws xs) ∙ e in
       rw (run-append (copying 0 p r) (copies 0 (p + spanOf r) xs) T)
-      (⊎-elim (λ k. copies-end T′ (ys ++ (r ∷ [])) (p + spanOf r) xs (d .0) (k .0) (k .1) (item-ones q T ys p H r (F .0) (omega arith) on W) a (omega arith) (F .1))
-      (λ k. last T′ (ys ++ (r ∷ [])) (p + spanOf r) xs (d .0) (k .0) (k .1) a (omega arith) (F .1)) (d .1))
+      (⊎-elim (λ k. copies-end T′ (ys ++ (r ∷ [])) (p + spanOf r) xs (d .0) (k .0) (k .1) (d .1) a (omega arith) (F .1))
+      (λ k. last T′ (ys ++ (r ∷ [])) (p + spanOf r) xs (d .0) (d .1) (k .0) (k .1) a (omega arith) (F .1)) (d .2))
     where
-      last : (T′ : List ℕ) (ys′ : List (List ℕ)) (p′ : ℕ) (xs : List Laid) → Shape q T′ ys′ p′ → p′ ≡ 126 → Word4 T′ 0xFC → ys′ ++ raws xs ≡ R
+      last : (T′ : List ℕ) (ys′ : List (List ℕ)) (p′ : ℕ) (xs : List Laid) → Shape q T′ ys′ p′ → Packed T′ p′ → p′ ≡ 126 → Word4 T′ 0xFC → ys′ ++ raws xs ≡ R
           → p′ + spans (raws xs) ≤ 126 → AllFine (raws xs) → Ready q R (run (copies 0 p′ xs) T′)
-      last T′ ys′ p′ [] S z w a g K = let y : ys′ ≡ R = sym (append-nil ys′) ∙ a in record { p = p′; shape = rw y at S; word = inr w }
-      last T′ ys′ p′ (y ∷ xs) S z w a g K = let b = K .0 .some in absurd (omega arith)
+      last T′ ys′ p′ [] S k z w a g K = let y : ys′ ≡ R = sym (append-nil ys′) ∙ a in record { p = p′; shape = rw y at S; packed = k; word = inr w }
+      last T′ ys′ p′ (y ∷ xs) S k z w a g K = let b = K .0 .some in absurd (omega arith)
 
   -- a cut anywhere
   pub copies-cut : (T : List ℕ) (ys : List (List ℕ)) (p : ℕ) (xs : List Laid) (k : ℕ) → Shape q T ys p → (p < 126) → Word4 T 0xFE
-      → ((i : ℕ) → 64 + p * 32 ≤ i → i < 4096 → getD T i 0 ≡ 0xFF)
-      → ys ++ raws xs ≡ R → p + spans (raws xs) ≤ 126 → AllFine (raws xs) → Going q R (run (take k (copies 0 p xs)) T) ⊎ Ready q R (run (take k (copies 0 p xs)) T)
+      → Packed T p → ys ++ raws xs ≡ R → p + spans (raws xs) ≤ 126 → AllFine (raws xs) → Going q R (run (take k (copies 0 p xs)) T) ⊎ Ready q R (run (take k (copies 0 p xs)) T)
   unfolding copies run sumOf
-  copies-cut T ys p [] k H h W on e f F = rw (take-nil {A = Step} k) (inl (record { ys = ys; p = p; more = []; shape = H; word = W; all = e; fit = f; fine = tt }))
-  copies-cut T ys p (x ∷ xs) k H h W on e f F =
+  copies-cut T ys p [] k H h W K e f F = rw (take-nil {A = Step} k) (inl (record { ys = ys; p = p; more = []; shape = H; word = W; all = e; fit = f; fine = tt }))
+  copies-cut T ys p (x ∷ xs) k H h W K e f F =
       let r = x .raw in
       let T′ = run (copying 0 p r) T in
-      let d = item-end q T ys p H r (F .0) (omega arith) on W in
+      let d = item-end q T ys p H r (F .0) (omega arith) K W in
       let a : (ys ++ (r ∷ [])) ++ raws xs ≡ R = append-assoc ys (r ∷ []) (raws xs) ∙ e in
       ⊎-elim
-      (λ c. rw c (within (item-cut q T ys p H r (F .0) (omega arith) on W k) a))
+      (λ c. rw c (within (item-cut q T ys p H r (F .0) (omega arith) K W k) a))
       (λ c. rw (c .1) (rw (run-append (copying 0 p r) (take (suc (c .0)) (copies 0 (p + spanOf r) xs)) T)
-      (⊎-elim (λ z. copies-cut T′ (ys ++ (r ∷ [])) (p + spanOf r) xs (suc (c .0)) (d .0) (z .0) (z .1) (item-ones q T ys p H r (F .0) (omega arith) on W) a (omega arith) (F .1))
-      (λ z. inr (over T′ (ys ++ (r ∷ [])) (p + spanOf r) xs (suc (c .0)) (d .0) (z .0) (z .1) a (omega arith) (F .1))) (d .1))))
+      (⊎-elim (λ z. copies-cut T′ (ys ++ (r ∷ [])) (p + spanOf r) xs (suc (c .0)) (d .0) (z .0) (z .1) (d .1) a (omega arith) (F .1))
+      (λ z. inr (over T′ (ys ++ (r ∷ [])) (p + spanOf r) xs (suc (c .0)) (d .0) (d .1) (z .0) (z .1) a (omega arith) (F .1))) (d .2))))
       (cut-append k (copying 0 p r) (copies 0 (p + spanOf r) xs))
     where
-      over : (T′ : List ℕ) (ys′ : List (List ℕ)) (p′ : ℕ) (xs : List Laid) (j : ℕ) → Shape q T′ ys′ p′ → p′ ≡ 126 → Word4 T′ 0xFC → ys′ ++ raws xs ≡ R
+      over : (T′ : List ℕ) (ys′ : List (List ℕ)) (p′ : ℕ) (xs : List Laid) (j : ℕ) → Shape q T′ ys′ p′ → Packed T′ p′ → p′ ≡ 126 → Word4 T′ 0xFC → ys′ ++ raws xs ≡ R
           → p′ + spans (raws xs) ≤ 126 → AllFine (raws xs) → Ready q R (run (take j (copies 0 p′ xs)) T′)
-      over T′ ys′ p′ [] j S z w a g K = let y : ys′ ≡ R = sym (append-nil ys′) ∙ a in rw (take-nil {A = Step} j) (record { p = p′; shape = rw y at S; word = inr w })
-      over T′ ys′ p′ (y ∷ xs) j S z w a g K = let b = K .0 .some in absurd (omega arith)
+      over T′ ys′ p′ [] j S k z w a g K = let y : ys′ ≡ R = sym (append-nil ys′) ∙ a in rw (take-nil {A = Step} j) (record { p = p′; shape = rw y at S; packed = k; word = inr w })
+      over T′ ys′ p′ (y ∷ xs) j S k z w a g K = let b = K .0 .some in absurd (omega arith)
 
       none-left : (p′ : ℕ) (xs : List Laid) → p′ ≡ 126 → p′ + spans (raws xs) ≤ 126 → AllFine (raws xs) → raws xs ≡ []
       none-left p′ [] z g K = refl
@@ -100,16 +112,16 @@ module _ (q : ℕ) (R : List (List ℕ)) where
 
       within : {T2 : List ℕ}
           → (Shape q T2 ys p × Word4 T2 0xFE) ⊎
-          ((Shape q T2 (ys ++ (x .raw ∷ [])) (p + spanOf (x .raw)) × Word4 T2 0xFE) ⊎ (Shape q T2 (ys ++ (x .raw ∷ [])) (p + spanOf (x .raw)) × (((p + spanOf (x .raw) < 126) × Word4 T2 0xFE) ⊎ ((p + spanOf (x .raw) ≡ 126) × Word4 T2 0xFC))))
+          ((Shape q T2 (ys ++ (x .raw ∷ [])) (p + spanOf (x .raw)) × Word4 T2 0xFE) ⊎ (Shape q T2 (ys ++ (x .raw ∷ [])) (p + spanOf (x .raw)) × Packed T2 (p + spanOf (x .raw)) × (((p + spanOf (x .raw) < 126) × Word4 T2 0xFE) ⊎ ((p + spanOf (x .raw) ≡ 126) × Word4 T2 0xFC))))
           → (ys ++ (x .raw ∷ [])) ++ raws xs ≡ R → Going q R T2 ⊎ Ready q R T2
       within (inl z) a = inl (record { ys = ys; p = p; more = x .raw ∷ raws xs; shape = z .0; word = z .1; all = e; fit = f; fine = F })
       within (inr (inl z)) a =
           inl (record { ys = ys ++ (x .raw ∷ []); p = p + spanOf (x .raw); more = raws xs; shape = z .0; word = z .1; all = a; fit = omega arith; fine = F .1 })
-      within (inr (inr (s, inl z))) a =
+      within (inr (inr (s, k, inl z))) a =
           inl (record { ys = ys ++ (x .raw ∷ []); p = p + spanOf (x .raw); more = raws xs; shape = s; word = z .1; all = a; fit = omega arith; fine = F .1 })
-      within (inr (inr (s, inr z))) a =
+      within (inr (inr (s, k, inr z))) a =
           let y : ys ++ (x .raw ∷ []) ≡ R = sym (append-nil (ys ++ (x .raw ∷ []))) ∙ ap {B = List (List ℕ)} (λ (w : List (List ℕ)). (ys ++ (x .raw ∷ [])) ++ w) (sym (none-left (p + spanOf (x .raw)) xs (z .0) (omega arith) (F .1))) ∙ a in
-          inr (record { p = p + spanOf (x .raw); shape = rw y at s; word = inr (z .1) })
+          inr (record { p = p + spanOf (x .raw); shape = rw y at s; packed = k; word = inr (z .1) })
 
 ⊎-swap : {A B : Type 0} → A ⊎ B → B ⊎ A
 ⊎-swap (inl a) = inr a
@@ -119,6 +131,15 @@ more-none : (rs : List (List ℕ)) → AllFine rs → spans rs ≤ 0 → rs ≡ 
 unfolding sumOf
 more-none [] F h = refl
 more-none (r ∷ rs) F h = let b = F .0 .some in absurd (omega arith)
+
+-- each item of the target is one of the source's, and they are all there where no entry is Empty
+pub record Partial (S T : List ℕ) : Type 0 where
+  pub sub : (y : Laid) → y ∈ itemsOf T → (x : Laid) × (x ∈ itemsOf S) × (y .raw ≡ x .raw)
+  pub complete : noRoom T ≡ true → raws (itemsOf T) ≡ raws (itemsOf S)
+
+-- an Active page or a Full one
+abbrev pub Settled : List ℕ → Type 0
+Settled T = (stateOf T ≡ Active) ⊎ (stateOf T ≡ Full)
 
 -- ---- what is read of it
 module _ (q : ℕ) (xs : List Laid) (T : List ℕ) where
@@ -164,7 +185,7 @@ module _ (S : List ℕ) (len : length S ≡ 4096) (small : (i : ℕ) → getD S 
   fine-raw e I =
       let a = I .ends in
       let b = I .some in
-      let sp = raw-span S e I in
+      let sp = raw-span S e (is-item S e I) in
       record {
         right = ap rightHeader (head-is e b) ∙ I .right;
         some = rw sp b;
@@ -190,7 +211,7 @@ module _ (S : List ℕ) (len : length S ≡ 4096) (small : (i : ℕ) → getD S 
           → AllFine (raws (walk S n (onFrom S i))) × (spans (raws (walk S n (onFrom S i))) ≤ 126 - cond b (i + spanOf (entryAt S i)) (i + 1))
           → AllFine (raws (cond b (laidAt S i ∷ walk S n (onFrom S i)) (walk S n (onFrom S i)))) ×
           (spans (raws (cond b (laidAt S i ∷ walk S n (onFrom S i)) (walk S n (onFrom S i)))) ≤ 126 - i)
-      go true q x = let I = item-is S i q in let a = raw-span S i I in let b = I .ends in let c = x .1 in ((fine-raw i I, x .0), omega arith)
+      go true q x = let I = item-is S i q in let a = raw-span S i q in let b = I .ends in let c = x .1 in ((fine-raw i I, x .0), omega arith)
       go false q x = let c = x .1 in (x .0, omega arith)
 
   -- the items of a page are fine, and fit on one

@@ -1,8 +1,8 @@
--- Initialising, on the bytes of a blank sector: no page until its last step, and then an Active one with every entry Empty. Assumes nothing.
+-- A fresh sector: a blank one is free, and initialising makes no page of it until its last step, and then an Active one with every entry Empty. Assumes nothing.
 use mathlib.Core.Path.{_∙_, _≡_, ap, refl, sym}
 use mathlib.Core.Logic.{inl, inr}
 use mathlib.Core.Bool.{true}
-use mathlib.Core.List.{List, []}
+use mathlib.Core.List.{List, [], _++_}
 use Prim.Native.Nat.{_%_, _*_, _+_, _/_, _<_, _^_, _≤_, suc, zero, ℕ}
 use native.Mathlib.Omega.{arith}
 use lib.ListN.{getD, length, length-drop, length-take, take}
@@ -11,21 +11,26 @@ use Rattle.word.specs.Number.{part}
 use Rattle.word.proofs.Bytes.{part-byte}
 use Rattle.entry.specs.States.{empty, stateAt}
 use Rattle.page.specs.State.{isFree, stateOf}
-use Rattle.flash.specs.Step.{run}
+use Rattle.page.proofs.Read.{Word4, state-free}
+use Rattle.flash.specs.Step.{Step, blank, run}
 use Rattle.flash.specs.Words.{words}
+use Rattle.flash.proofs.Erased.{blank-byte}
 use Rattle.flash.proofs.Frame.{AllIn, In, length-run, run-other}
 use Rattle.flash.proofs.Words.{words-in, words-read}
 use Rattle.flash.proofs.Laws.{run-append}
 use Rattle.flash.proofs.Every.{every-take}
 use Rattle.item.specs.Initialise.{header}
 use Rattle.item.proofs.Header.{header-length, header-small}
-use Rattle.relocate.proofs.Filling.{initSteps}
-use Rattle.power.proofs.Read.{Word4, state-free}
-use Rattle.power.proofs.Shape.{Shape}
+use Rattle.item.proofs.Packed.{Ones, Packed}
+use Rattle.item.proofs.Shape.{Shape}
 
--- ones from byte a on
-abbrev pub Ones : List ℕ → ℕ → Type 0
-Ones T a = (i : ℕ) → a ≤ i → i < 4096 → getD T i 0 ≡ 0xFF
+-- a blank sector is free
+pub blank-free : isFree (stateOf (blank 4096)) ≡ true
+blank-free = state-free (blank 4096) (blank-byte 4096 0 (omega arith))
+
+-- the words of the header, the state word last
+abbrev pub initSteps : ℕ → List Step
+initSteps q = words 0 (header q) 1 7 ++ words 0 (header q) 0 1
 
 module _ (q : ℕ) (T : List ℕ) (len : length T ≡ 4096) (on : Ones T 0) where
   abbrev T1 : List ℕ
@@ -96,3 +101,6 @@ module _ (q : ℕ) (T : List ℕ) (len : length T ≡ 4096) (on : Ones T 0) wher
   -- and nothing is laid
   pub init-shape : Shape q T2 [] 0
   init-shape = record { len = len-T2; tail = init-tail; laid = refl; empty-from = λ e a b. init-state e b; fits = omega arith; fine = tt }
+
+  pub init-packed : Packed T2 0
+  init-packed = record { len = len-T2; written-to = λ e h. absurd (omega arith); empty-from = λ e a b. init-state e b; ones-from = λ i a b. high i (omega arith) b }

@@ -15,15 +15,15 @@ use Rattle.entry.specs.Fields.{entryAt, spanOf}
 use Rattle.page.specs.declared.state.PageState.the-variants.{Active, Full}
 use Rattle.page.specs.State.{headerRight, isFree, sequenceOf, stateOf}
 use Rattle.page.specs.Walk.{Laid, isItem, itemsOf, rightHeader, walk}
+use Rattle.page.proofs.Read.{Word4, noRoom, right-same, sequence-same, state-is}
+use Rattle.page.proofs.Items.{is-item, no-item}
 use Rattle.flash.specs.Step.{Step, run}
 use Rattle.flash.proofs.Frame.{AllIn, In, length-run, part-kept, part-same, run-other}
 use Rattle.flash.proofs.Every.{every-one}
 use Rattle.item.specs.Initialise.{header}
 use Rattle.item.specs.Mark.{pageState}
 use Rattle.item.proofs.States.{state-byte}
 use Rattle.item.proofs.Header.{header-right, header-sequence}
-use Rattle.power.proofs.Read.{Word4, noRoom, right-same, sequence-same, state-is}
-use Rattle.power.proofs.Items.{is-item, no-item}
 
 -- the bytes of items laid one after the other
 abbrev pub raws : List Laid → List (List ℕ)

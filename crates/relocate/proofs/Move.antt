@@ -9,47 +9,32 @@ use lib.ListN.{length, take}
 use lib.Seq.{take-nil}
 use Rattle.page.specs.State.{allOnes, isFree, stateOf}
 use Rattle.page.specs.Walk.{Laid}
+use Rattle.page.proofs.Read.{ones-byte}
 use Rattle.flash.specs.Words.{words}
-use Rattle.flash.specs.Step.{Step, apply, blank, erase, run, sector}
-use Rattle.flash.proofs.Erased.{blank-byte, length-sector, sector-erased}
-use Rattle.flash.proofs.Frame.{AllIn, In, length-run, sector-kept}
+use Rattle.flash.specs.Step.{Step, blank, erase, run, sector}
+use Rattle.flash.proofs.Erased.{blank-byte, erased-blank, length-sector}
+use Rattle.flash.proofs.Frame.{In, erase-in, length-run, sector-kept}
 use Rattle.flash.proofs.Laws.{cut-append, run-append}
 use Rattle.flash.proofs.Lent.{AllFit, Fit, sector-local, shift, shift-in, take-shift}
-use Rattle.flash.proofs.Every.{every-append, every-one, every-take}
+use Rattle.flash.proofs.Every.{every-append, every-take}
 use Rattle.item.specs.Initialise.{clearing, header}
 use Rattle.item.proofs.Local.{header-fit}
 use Rattle.item.proofs.Clearing.{clearing-in}
-use Rattle.item.proofs.Ones.{ones-byte}
+use Rattle.item.proofs.Fresh.{blank-free, init-junk, init-packed, init-shape, init-word, initSteps}
+use Rattle.item.proofs.Packed.{Ones, Packed}
+use Rattle.item.proofs.Shape.{AllFine, raws}
 use Rattle.relocate.specs.Move.{copies, moving}
-use Rattle.relocate.proofs.Filling.{fill, initSteps, moving-fills}
-use Rattle.power.proofs.Initial.{Ones, high, init-junk, init-shape, init-word}
-use Rattle.power.proofs.Read.{state-free}
-use Rattle.power.proofs.Shape.{AllFine, raws}
-use Rattle.power.proofs.Copies.{Going, Ready, copies-cut, copies-end, fine-fit, spans}
-
--- an erased sector is blank, and free
-pub erased-blank : (t : ℕ) (l : List ℕ) → t * 4096 + 4096 ≤ length l → sector t (run (erase t ∷ []) l) ≡ blank 4096
-unfolding run apply
-erased-blank t l h = sector-erased l t h
-
--- a blank sector is free
-pub blank-free : isFree (stateOf (blank 4096)) ≡ true
-blank-free = state-free (blank 4096) (blank-byte 4096 0 (omega arith))
-
-pub erase-in : (u : ℕ) → AllIn (u * 4096) (u * 4096 + 4096) (erase u ∷ [])
-erase-in u = every-one (In (u * 4096) (u * 4096 + 4096)) (erase u) (omega arith, omega arith)
+use Rattle.relocate.proofs.Filling.{fill, moving-fills}
+use Rattle.relocate.proofs.Copies.{Going, Ready, copies-cut, copies-end, fine-fit, ready-packed, spans}
 
 module _ (q : ℕ) (xs : List Laid) (F : AllFine (raws xs)) (fit : spans (raws xs) ≤ 126) where
   module _ (T : List ℕ) (len : length T ≡ 4096) (on : Ones T 0) where
     abbrev I : List ℕ
     I = run (initSteps q) T
 
-    on-64 : Ones I 64
-    on-64 i a b = high q T len on i (omega arith) b
-
     fill-end : Ready q (raws xs) (run (fill q xs) T)
     fill-end = rw (run-append (initSteps q) (copies 0 0 xs) T)
-        (copies-end q (raws xs) I [] 0 xs (init-shape q T len on) (omega arith) (init-word q T len on) (λ i a b. on-64 i (omega arith) b) refl (omega arith) F)
+        (copies-end q (raws xs) I [] 0 xs (init-shape q T len on) (omega arith) (init-word q T len on) (init-packed q T len on) refl (omega arith) F)
 
     start : Going q (raws xs) I
     start = record { ys = []; p = 0; more = raws xs; shape = init-shape q T len on; word = init-word q T len on; all = refl; fit = omega arith; fine = F }
@@ -59,7 +44,7 @@ module _ (q : ℕ) (xs : List Laid) (F : AllFine (raws xs)) (fit : spans (raws x
     fill-cut k = ⊎-elim
         (λ e. rw e (head k))
         (λ e. rw (e .1) (rw (run-append (initSteps q) (take (suc (e .0)) (copies 0 0 xs)) T)
-        (inr (copies-cut q (raws xs) I [] 0 xs (suc (e .0)) (init-shape q T len on) (omega arith) (init-word q T len on) (λ i a b. on-64 i (omega arith) b) refl (omega arith) F))))
+        (inr (copies-cut q (raws xs) I [] 0 xs (suc (e .0)) (init-shape q T len on) (omega arith) (init-word q T len on) (init-packed q T len on) refl (omega arith) F))))
         (cut-append k (initSteps q) (copies 0 0 xs))
       where
         one-left : (j : ℕ) → take (suc j) (words 0 (header q) 0 1) ≡ words 0 (header q) 0 1
@@ -97,7 +82,7 @@ module _ (q : ℕ) (xs : List Laid) (F : AllFine (raws xs)) (fit : spans (raws x
         go : (b : Bool) (k : ℕ) → isFree (stateOf (sector t (run (take k (cond b [] (erase t ∷ []))) l))) ≡ true
         go true k = rw (take-nil {A = Step} k) (unfold run in free)
         go false zero = unfold run in free
-        go false (suc k) = rw (take-nil {A = Step} k) (rw (erased-blank t l ht) blank-free)
+        go false (suc k) = rw (take-nil {A = Step} k) (rw (erased-blank l t ht) blank-free)
 
     clear-ones : Ones (sector t l1) 0
     unfolding clearing
@@ -105,7 +90,7 @@ module _ (q : ℕ) (xs : List Laid) (F : AllFine (raws xs)) (fit : spans (raws x
       where
         go : (b : Bool) → allOnes (sector t l) ≡ b → Ones (sector t (run (cond b [] (erase t ∷ [])) l)) 0
         go true e i a b = unfold run in ones-byte (sector t l) e i (let z = len-t in omega arith)
-        go false e i a b = rw (erased-blank t l ht) (blank-byte 4096 i b)
+        go false e i a b = rw (erased-blank l t ht) (blank-byte 4096 i b)
 
     len-l1 : length l1 ≡ length l
     len-l1 = length-run (clearing t l) l
@@ -138,12 +123,16 @@ module _ (q : ℕ) (xs : List Laid) (F : AllFine (raws xs)) (fit : spans (raws x
         let n2 : length l2 ≡ length l = length-run (shift (t * 4096) (fill q xs)) l1 ∙ len-l1 in
         let kept : (u : ℕ) → (u ≡ s → ⊥) → sector u (run (erase s ∷ []) l2) ≡ sector u l2 = (λ u k. sector-kept u s (erase s ∷ []) l2 k (erase-in s)) in
         let at : sector t (run (erase s ∷ []) l2) ≡ run (fill q xs) (sector t l1) = kept t (λ e. ne (sym e)) ∙ sector-local t (fill q xs) l1 fill-fit in
-        (λ u a b. kept u b ∙ others-2 (fill q xs) fill-fit u a, rw at (fill-end (sector t l1) len-t1 clear-ones), erased-blank s l2 (omega arith))
+        (λ u a b. kept u b ∙ others-2 (fill q xs) fill-fit u a, rw at (fill-end (sector t l1) len-t1 clear-ones), erased-blank l2 s (omega arith))
 
     -- the end: the target has the items, and the source is blank
     pub move-end : ((u : ℕ) → (u ≡ t → ⊥) → (u ≡ s → ⊥) → sector u (run (moving s t q xs l) l) ≡ sector u l) × Ready q (raws xs) (sector t (run (moving s t q xs l) l)) × (sector s (run (moving s t q xs l) l) ≡ blank 4096)
     move-end =
         rw (moving-fills s t q xs l, run-append (clearing t l) (shift (t * 4096) (fill q xs) ++ (erase s ∷ [])) l, run-append (shift (t * 4096) (fill q xs)) (erase s ∷ []) l1) whole
+
+    -- so all entries of the copy are Written, and behind them the sector is blank: the next item can be written there
+    pub moved-packed : Packed (sector t (run (moving s t q xs l) l)) (spans (raws xs))
+    moved-packed = ready-packed q (raws xs) (sector t (run (moving s t q xs l) l)) (move-end .1)
 
     -- and every cut
     pub move-cut : (k : ℕ) → Cut s t l (run (take k (moving s t q xs l)) l)
