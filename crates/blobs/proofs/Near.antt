@@ -18,16 +18,13 @@ use Rattle.lists.specs.Lists.{keep, best}
 use Rattle.lists.proofs.Member.{_∈_, true≢false, refuted}
 use Rattle.lists.proofs.Search.{keep-none, best-none}
 use Rattle.found.specs.Found.{Found, newer, isChunk, isIndex, isPart, startIn, versionOf, groupOf, indexOf, chunkOf, chunks, eraseAll}
+use Rattle.page.proofs.Tests.{either-second}
 use Rattle.found.proofs.Ranking.{start-le}
 use Rattle.lists.proofs.Keeping.{keep-within, sum-within}
 use Rattle.blobs.specs.Blobs.{indices, counting, sizeIn, sound, dropVersion, judgeWith, judge, versionIn, soundOne, bothSound, dropCounting, olderWith, older}
 
 or-left : (a b : Bool) → a ≡ true → (a || b) ≡ true
 or-left a b e = rw e
-
-or-right : (a b : Bool) → b ≡ true → (a || b) ≡ true
-or-right true b e = refl
-or-right false b e = e
 
 -- ---- a group's versions
 pub split-version : (b g st n s k : ℕ) → 0 < b → k < b → st ≤ 128 → s ≤ 128 → (n * 256 + s) * b + k ≡ (g / b * 256 + st) * b + g % b → (n * 256 + s ≡ g / b * 256 + st) × (k ≡ g % b) → n * b + k ≡ g
@@ -52,7 +49,7 @@ module _ (fs : List Found) (q : Found → Bool) where
 
   module _ (v : ℕ) (near : Near v) where
     index-near : (x : Found) → x ∈ fs → indexOf v (x .raw) ≡ true → q x ≡ true
-    index-near x m e = near x m (or-right (isChunk (x .raw)) (isIndex (x .raw)) (both-first (isIndex (x .raw)) _ e)) (eqb-true (versionOf (x .raw)) v (both-second (isIndex (x .raw)) _ e))
+    index-near x m e = near x m (either-second (isChunk (x .raw)) (isIndex (x .raw)) (both-first (isIndex (x .raw)) _ e)) (eqb-true (versionOf (x .raw)) v (both-second (isIndex (x .raw)) _ e))
 
     chunk-near : (x : Found) → x ∈ fs → chunkOf v (x .raw) ≡ true → q x ≡ true
     chunk-near x m e = near x m (or-left (isChunk (x .raw)) (isIndex (x .raw)) (both-first (isChunk (x .raw)) _ e)) (eqb-true (versionOf (x .raw)) v (both-second (isChunk (x .raw)) _ e))

@@ -1,7 +1,7 @@
 -- The parts sorted by group: their runs are the groups, and namespace by namespace the versions of either start. Assumes nothing.
 use mathlib.Core.Path.{_≡_, refl, sym, ap, ap₂, subst, _∙_}
 use mathlib.Core.Logic.{_⊎_, inl, inr, ⊎-elim}
-use mathlib.Core.Bool.{Bool, true, false, cond, _&&_, _||_}
+use mathlib.Core.Bool.{Bool, true, false, cond, _&&_}
 use mathlib.Core.List.{List, [], _∷_, _++_, map, flatMap}
 use Prim.Native.Nat.{ℕ, suc, _+_, _*_, _/_, _%_, _^_, _<_, _≤_}
 use native.Mathlib.Omega.{arith}
@@ -9,6 +9,7 @@ use native.Mathlib.Nat.{mod-lt, div-add-mod', mul-assoc, mul-le-mul-right, le-di
 use lib.Arith.{digits-lt, digits-div, digits-mod}
 use lib.Dec.{eqb, ltb, lit<}
 use borrow.Author.Tests.{eqb-true, eq-eqb}
+use Rattle.page.proofs.Tests.{either-second}
 use Rattle.entry.specs.Fields.{namespaceOf, keyOf, keyNumber, chunkIndexOf, indexStart}
 use Rattle.flash.specs.Step.{Step}
 use Rattle.lists.specs.Lists.{keep, sortBy, ascending}
@@ -94,11 +95,7 @@ module _ (fs : List Found) (keys : (x : Found) → x ∈ fs → keyNumber (keyOf
       more c m =
           let z = map-in groupBy (keep index fs) c m in
           let k = keep-in index fs (z .0) (z .1) in
-          rw (z .2) (in-map groupBy ps (z .0) (in-keep part fs (z .0) (k .0) (or-right (isChunk (z .0 .raw)) (isIndex (z .0 .raw)) (k .1))))
-        where
-          or-right : (a b : Bool) → b ≡ true → (a || b) ≡ true
-          or-right true b e = refl
-          or-right false b e = e
+          rw (z .2) (in-map groupBy ps (z .0) (in-keep part fs (z .0) (k .0) (either-second (isChunk (z .0 .raw)) (isIndex (z .0 .raw)) (k .1))))
 
       none-else : (c : ℕ) → c ∈ map groupBy ps → (c ∈ map groupBy (keep index fs) → ⊥) → older fs c ≡ []
       none-else c m out = older-none fs c (λ x k i e. out (rw (← version-near c 0 (x .raw) (keys x k) (omega arith) e) (in-map groupBy (keep index fs) x (in-keep index fs x k i))))

@@ -1,8 +1,8 @@
 -- A run of places: the items of one group, and what goes of them. Assumes nothing.
 use mathlib.Core.Path.{_≡_, ap, _∙_}
-use mathlib.Core.Bool.{Bool, true, false, cond, not}
-use mathlib.Core.List.{List, [], _∷_}
-use Prim.Native.Nat.{ℕ, suc, _-_, _^_, _≤_, _<_}
+use mathlib.Core.Bool.{not}
+use mathlib.Core.List.{List, []}
+use Prim.Native.Nat.{ℕ, _-_, _^_, _≤_, _<_}
 use native.Mathlib.Omega.{arith}
 use lib.Dec.{leb}
 use lib.ListN.{length, take, drop, getD, length-drop}
@@ -11,7 +11,8 @@ use borrow.Author.Tests.{lt-leb}
 use Rattle.entry.specs.Fields.{namespaceOf, keyOf, keyNumber}
 use Rattle.entry.proofs.Keys.{two-high}
 use Rattle.page.proofs.Tests.{both-second}
-use Rattle.lists.specs.Lists.{keep, sortBy}
+use Rattle.lists.proofs.Lengths.{length-keep}
+use Rattle.lists.specs.Lists.{sortBy}
 use Rattle.lists.proofs.Member.{_∈_, refuted, true≢false}
 use Rattle.lists.proofs.Maps.{map-in}
 use Rattle.lists.proofs.Search.{keep-none}
@@ -32,15 +33,6 @@ use Rattle.duplicates.proofs.Aged.{run-aged}
 
 pub lent : (s : List ℕ) (a : ℕ) → take (length s - a) (drop a s) ≡ drop a s
 lent s a = take-all (length s - a) (drop a s) (rw (length-drop a s) (omega arith))
-
-length-keep : {A : Type 0} (p : A → Bool) (xs : List A) → length (keep p xs) ≤ length xs
-unfolding keep
-length-keep p [] = omega arith
-length-keep {A} p (x ∷ xs) = go (p x) (length-keep p xs)
-  where
-    go : (b : Bool) → length (keep p xs) ≤ length xs → length (cond b (x ∷ keep p xs) (keep p xs)) ≤ suc (length xs)
-    go true h = omega arith
-    go false h = omega arith
 
 pub run-one : (xs : List Found) → length xs ≤ 1 → runSteps xs ≡ []
 run-one xs h = run-short xs (let k = length-keep (λ (x : Found). ranked (x .raw)) xs in omega arith)

@@ -1,3 +1,2 @@
-pub mod Enter
 pub mod Part
 pub mod Fixed

@@ -1,5 +1,5 @@
 -- One line more, and the lines of what recovery answered. Assumes nothing.
-use mathlib.Core.Path.{_≡_, sym, ap, _∙_}
+use mathlib.Core.Path.{_≡_, refl, sym, ap, _∙_}
 use mathlib.Core.Bool.{Bool, true, false, cond}
 use mathlib.Core.List.{List, [], _∷_, _++_, append-assoc, append-nil}
 use Prim.Native.Nat.{ℕ, suc, _+_, _/_, _≤_, _<_}
@@ -73,10 +73,10 @@ module _ (m : List ℕ) (t : Rows) where
 
 module _ (l m : List ℕ) (r : Recovered) (p : Recovers l lent allowance m r) where
   pub rows-enough : r .rows .count ≤ length (r .rows .rows)
-  rows-enough = handed-out m (r .rows) (r .answer) (unstopped (p .answer) (omega arith)) (p .rows) .0
+  rows-enough = handed-out m (r .rows) (r .answer) (unstopped l lent allowance (p .answer) (omega arith)) (p .rows) .0
 
   pub listing-is : (bytes : ℕ) → head (bytes / 4096) (r .answer) ++ lines 0 (take (r .rows .count) (r .rows .rows)) ≡ listing l bytes
   unfolding listing
   listing-is bytes =
-      ap (λ (s : List ℕ). head (bytes / 4096) (r .answer) ++ s) (handed-out m (r .rows) (r .answer) (unstopped (p .answer) (omega arith)) (p .rows) .1) ∙
+      ap (λ (s : List ℕ). head (bytes / 4096) (r .answer) ++ s) (handed-out m (r .rows) (r .answer) (unstopped l lent allowance (p .answer) (omega arith)) (p .rows) .1) ∙
       ap (λ (a : Answer). head (bytes / 4096) a ++ linesFor a m) (recovers-answer p) ∙ ap (λ (i : List ℕ). head (bytes / 4096) (answered l) ++ linesFor (answered l) i) (p .image)

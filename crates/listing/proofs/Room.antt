@@ -1,4 +1,4 @@
--- The longest listing: a head of 46 bytes and 16 lines of 67. Assumes nothing.
+-- No listing is longer than a head of 46 bytes and 16 lines of 67. Assumes nothing.
 use mathlib.Core.Path.{_≡_, refl, ap, subst}
 use mathlib.Core.Bool.{Bool, true, false, cond}
 use mathlib.Core.List.{List, [], _∷_, _++_}
@@ -168,4 +168,4 @@ pub listing-fits : (l : List ℕ) (bytes : ℕ) → Small l → bytes < 2 ^ 64 �
 unfolding listing
 listing-fits l bytes h k =
     omega
-    (arith, length-append (head (bytes / 4096) (answered l)) (linesFor (answered l) (imageAfter l)), head-most (bytes / 4096) (answered l) (omega (arith, k)) (steps-most (recover-told l lent allowance)), for-most l h)
+    (arith, length-append (head (bytes / 4096) (answered l)) (linesFor (answered l) (imageAfter l)), head-most (bytes / 4096) (answered l) (omega (arith, k)) (steps-most l lent allowance (recover-told l lent allowance)), for-most l h)

@@ -5,7 +5,7 @@ use table::Sought;
 use table::Table;
 ghost use mathlib.Core.Path.{_≡_};
 ghost use mathlib.Core.Bool.{cond};
-ghost use mathlib.Core.List.{[], _∷_, map};
+ghost use mathlib.Core.List.{[], _∷_, _++_, map};
 ghost use Prim.Native.Nat.{_+_, _*_, _≤_};
 ghost use lib.ListN.{length};
 ghost use Rattle.flash.specs.Did.{Did};
@@ -16,6 +16,12 @@ ghost use Rattle.table.specs.Sought.{soughtOf, betterAmong};
 ghost use Rattle.table.specs.Placed.{Placed};
 ghost use Rattle.order.specs.Order.{newerPage, kept, noEmpty, ordering, ordered};
 ghost use Rattle.order.specs.Turns.{closed, fullMarks, keptMark};
+
+// What became of this stage's steps, and the lists as it leaves them.
+pub struct OrderRan {
+    pub ran: Ran,
+    pub lists: Table,
+}
 
 // The better of a page and the best Active one of those behind it: among equals the first.
 fn better_of(p: Page, best: Sought) -> Sought
@@ -91,18 +97,6 @@ fn kept_as(p: Page) -> Page
     p
 }
 
-// The list as this stage leaves it.
-pub fn order_table(t: Table) -> Table
-    requires { ⌜ Sized t ⌝ }
-    ensures { λ r. ⌜ Holds r (ordered (listed t)) (freed t) ⌝ }
-{
-    let Sought::Found(a) = kept_page(t) else {
-        return t;
-    };
-    let others = close_all(table::take_out(t, a.sector));
-    table::append_page(others, kept_as(a))
-}
-
 // Marks the Active pages of the list Full, in list order.
 fn mark_all(image: &mut [u8], t: Table, allowance: u64) -> Ran
     requires { ⌜ Sized t × Placed (sectorsOf (now image)) (listed t) (freed t) ⌝ }
@@ -142,17 +136,33 @@ fn mark_kept(image: &mut [u8], p: Page, left: u64) -> Ran
     Ran::Done(left)
 }
 
-// The steps of this stage, for the pages that the table lists.
-pub fn make_order(image: &mut [u8], t: Table, allowance: u64) -> Ran
-    requires { ⌜ Sized t × Placed (sectorsOf (now image)) (listed t) (freed t) ⌝ }
-    ensures { λ r. ⌜ Did (ordering (listed t)) allowance (now (image .entry)) (now (image .exit)) r ⌝ }
+// Marks the others that are Active Full, then the kept page.
+fn make_marks(image: &mut [u8], others: Table, kept: Page, allowance: u64) -> Ran
+    requires { ⌜ Sized others × Placed (sectorsOf (now image)) (listed others) (freed others) × (kept .sector * 4096 + 4096 ≤ length (now image)) ⌝ }
+    ensures { λ r. ⌜ Did (fullMarks (listed others) ++ keptMark kept) allowance (now (image .entry)) (now (image .exit)) r ⌝ }
 {
-    let Sought::Found(a) = kept_page(t) else {
-        return Ran::Done(allowance);
-    };
-    let r = mark_all(image, table::take_out(t, a.sector), allowance);
+    let r = mark_all(image, others, allowance);
     let Ran::Done(left) = r else {
         return Ran::Stopped;
     };
-    mark_kept(image, a, left)
+    mark_kept(image, kept, left)
+}
+
+// Makes the steps of this stage for the pages that the table lists, and hands out the lists as it leaves them.
+pub fn order_pages(image: &mut [u8], t: Table, allowance: u64) -> OrderRan
+    requires { ⌜ Sized t × Placed (sectorsOf (now image)) (listed t) (freed t) ⌝ }
+    ensures { λ r. ⌜ Did (ordering (listed t)) allowance (now (image .entry)) (now (image .exit)) (r .ran) × Holds (r .lists) (ordered (listed t)) (freed t) ⌝ }
+{
+    let Sought::Found(a) = kept_page(t) else {
+        return OrderRan {
+            ran: Ran::Done(allowance),
+            lists: t,
+        };
+    };
+    let others = table::take_out(t, a.sector);
+    let ran = make_marks(image, others, a, allowance);
+    OrderRan {
+        ran,
+        lists: table::append_page(close_all(others), kept_as(a)),
+    }
 }

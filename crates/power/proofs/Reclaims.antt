@@ -57,7 +57,7 @@ module _ (l : List ℕ) (S : Premises l) (n : ℕ) where
       ap closed (page-state l x m ∙ full)
 
   -- no refusal's condition holds
-  numbered : numberIn (reclaimTable l n) ≡ cond (ltb n (length (reclaiming l))) 7 0
+  numbered : _≡_ {A = ℕ} (numberIn (reclaimTable l n)) (cond (ltb n (length (reclaiming l))) 7 0)
   unfolding reclaimTable numberIn accepted
   numbered =
       let x = choice in
@@ -65,7 +65,10 @@ module _ (l : List ℕ) (S : Premises l) (n : ℕ) where
       let spent : sequencesSpent (pages l) ≡ false = le-ltb 0xFFFFFFFD (greatest sequence (pages l)) (omega (arith, sequences-left)) in
       rw (whole, some-none activePage (pages l) (no-active l S), S .below-126, x .1, is-closed (x .0) (x .2), some-free, spent) (go (eqb (x .0 .seen .erased) 126))
     where
-      go : (b : Bool) → cond (not b && false) 5 (cond (not b && false) 6 (cond (ltb n (length (reclaiming l))) 7 0)) ≡ cond (ltb n (length (reclaiming l))) 7 0
+      end : ℕ
+      end = cond (ltb n (length (reclaiming l))) 7 0
+
+      go : (b : Bool) → _≡_ {A = ℕ} (cond (not b && false) 5 (cond (not b && false) 6 end)) end
       go true = refl
       go false = refl
 

@@ -106,7 +106,7 @@ called-most l lent = go (leb (sectorsOf l) lent)
     go false = omega arith
 
 -- so no call tells of more, and one that is allowed as many is refused or ends
-module _ {l : List ℕ} {lent n : ℕ} {r : Answer} (t : Told (recoverTable l lent n) n (called l lent) r) where
+module _ (l : List ℕ) (lent n : ℕ) {r : Answer} (t : Told (recoverTable l lent n) n (called l lent) r) where
   pub steps-most : stepsOf r ≤ mostSteps
   unfolding stepsMade
   steps-most = omega (arith, t .steps, length-take n (called l lent), called-most l lent)
@@ -116,7 +116,7 @@ module _ {l : List ℕ} {lent n : ℕ} {r : Answer} (t : Told (recoverTable l le
 
 module _ {l m : List ℕ} {ys zs : List PageRecord} {n : ℕ} {r : Answer} (p : RecoverPromise l ys n m zs r) (allowed : mostSteps ≤ n) where
   pub recover-unstopped : numberOf r ≡ 7 → ⊥
-  recover-unstopped = unstopped (p .answer) allowed
+  recover-unstopped = unstopped l (length ys) n (p .answer) allowed
 
   pub recover-ended : refusal r ≡ false → numberOf r ≡ 0
   recover-ended f = neither-ended r f recover-unstopped

@@ -3,6 +3,5 @@ pub mod Listed
 pub mod Answered
 pub mod Numbers
 pub mod Promised
-pub mod Enter
 pub mod Fixed
 pub mod Ends

@@ -90,11 +90,12 @@ fn from_order(t: &[u32; 324], image: &mut [u8], lists: Table, allowed: u64) -> W
     requires { ⌜ (now t ≡ crcTable) × Holds lists (pages (now image)) (frees (now image)) × (sectorsOf (now image) ≤ 16) ⌝ }
     ensures { λ r. ⌜ Made (fromOrder (pages (now (image .entry))) (now (image .entry))) allowed (now (image .entry)) (now (image .exit)) r ⌝ }
 {
-    let r = order::make_order(image, lists, allowed);
-    let Ran::Done(left) = r else {
+    let r = order::order_pages(image, lists, allowed);
+    let ran = r.ran;
+    let Ran::Done(left) = ran else {
         return Went::Short(Stage::Order);
     };
-    last_stages(t, image, order::order_table(lists), left)
+    last_stages(t, image, r.lists, left)
 }
 
 // Stage 2, `count` rounds of it, then the scan and stage 1 again.
@@ -116,14 +117,14 @@ pub fn make_stages(t: &[u32; 324], image: &mut [u8], lists: Table, allowed: u64)
     requires { ⌜ (now t ≡ crcTable) × Holds lists (pages (now image)) (frees (now image)) × (length (now image) ≡ sectorsOf (now image) * 4096) × (sectorsOf (now image) ≤ 16) × (tooHigh (pages (now image)) ≡ false) ⌝ }
     ensures { λ r. ⌜ Made (recovering (now (image .entry))) allowed (now (image .entry)) (now (image .exit)) r ⌝ }
 {
-    let r = order::make_order(image, lists, allowed);
-    let Ran::Done(left) = r else {
+    let r = order::order_pages(image, lists, allowed);
+    let ran = r.ran;
+    let Ran::Done(left) = ran else {
         return Went::Short(Stage::Order);
     };
-    let ordered = order::order_table(lists);
-    let count = finishing::count_freeing(ordered);
+    let count = finishing::count_freeing(r.lists);
     if count == 0 {
-        return last_stages(t, image, ordered, left);
+        return last_stages(t, image, r.lists, left);
     }
-    from_finish(t, image, ordered, count, left)
+    from_finish(t, image, r.lists, count, left)
 }

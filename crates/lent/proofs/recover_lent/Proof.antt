@@ -54,7 +54,7 @@ use Rattle.answer.proofs.Answer as N
 use Rattle.answer.proofs.Answer.Laws as N′
 use Rattle.lent.proofs.Lent as K
 use Rattle.lent.proofs.Lent.Laws as K′
-use Rattle.lent.proofs.Enter.{entered-12-4}
+use Rattle.records.proofs.Enter.{entered-12-4}
 use Rattle.lent.proofs.Part.{Behind, part-lent, part-back}
 use Rattle.recover.proofs.recover as recover
 use Rattle.recover.proofs.recover.Symbol as recover-def

@@ -52,7 +52,7 @@ use Rattle.answer.proofs.Answer as N
 use Rattle.answer.proofs.Answer.Laws as N′
 use Rattle.recover.proofs.Recovered as O
 use Rattle.recover.proofs.Recovered.Laws as O′
-use Rattle.recover.proofs.Enter.{entered-11-3}
+use Rattle.records.proofs.Enter.{entered-11-3}
 use Rattle.recover.proofs.recover_image as core
 use Rattle.recover.proofs.recover_image.Symbol as core-def
 use Rattle.recover.proofs.recover_image.Symbol.{name as #recover·recover-image}

@@ -6,36 +6,39 @@ use borrow.Author.Needs.{needs}
 use Rattle.recover.proofs.stages.from_order.Statement.{statement}
 use Rattle.recover.proofs.stages.from_order.Tie as tie
 
-make-order-requires : tie.Need-make-order-requires
-make-order-requires c κs = (c .before .before .pre .1 .sized, held-placed (c .before .before .args .image .now) (c .before .before .pre .2) (c .before .before .pre .1))
+order-pages-requires : tie.Need-order-pages-requires
+order-pages-requires c κs = (c .before .before .pre .1 .sized, held-placed (c .before .before .args .image .now) (c .before .before .pre .2) (c .before .before .pre .1))
 
 returns : tie.Need-returns
 returns c =
-    let a = c .before .before .before .before .before .before .before in
-    order-stop (pages (a .args .image .now)) (rw (a .pre .1 .list) at (c .before .before .before .before .make-order .ensures)) (c .enum-told .given .1)
+    let o = c .before .before .before .before in
+    let a = o .before .before .before in
+    order-stop (pages (a .args .image .now)) (rw (a .pre .1 .list) at (o .order-pages .ensures .0)) (c .enum-told .given .1)
 
 last-stages-requires : tie.Need-last-stages-requires
 last-stages-requires c κs =
-    let a = c .before .before .before .before .before .before .before .before .before .before in
-    let o = stage-1 (a .args .image .now) (a .pre .2) (a .pre .1) (c .before .before .before .before .before .before .before .make-order .ensures) (c .before .before .before .r .given .1) (c .order-table .ensures) in
-    (a .pre .0, o .sized, o .placed, o .lies)
+    let o = c .before .before .before .before .before .before in
+    let a = o .before .before .before in
+    let left = stage-1 (a .args .image .now) (a .pre .2) (a .pre .1) (o .order-pages .ensures .0) (c .before .before .ran .given .1) (o .order-pages .ensures .1) in
+    (a .pre .0, left .sized, left .placed, left .lies)
 
 returns-2 : tie.Need-returns-2
 returns-2 c =
-    let a = c .before .before .before .before .before .before .before .before .before .before .before .before .before in
-    let o = stage-1 (a .args .image .now) (a .pre .2) (a .pre .1) (c .before .before .before .before .before .before .before .before .before .before .make-order .ensures) (c .before .before .before .before .before .before .r .given .1) (c .before .before .before .order-table .ensures) in
-    order-on (pages (a .args .image .now)) (rw (a .pre .1 .list) at (c .before .before .before .before .before .before .before .before .before .before .make-order .ensures)) (c .before .before .before .before .before .before .r .given .1) (rw (o .list) at (c .before .before .last-stages .ensures))
+    let r = c .before .before .before .before .before in
+    let o = r .before .before .before .before in
+    let a = o .before .before .before in
+    let left = stage-1 (a .args .image .now) (a .pre .2) (a .pre .1) (o .order-pages .ensures .0) (r .ran .given .1) (o .order-pages .ensures .1) in
+    order-on (pages (a .args .image .now)) (rw (a .pre .1 .list) at (o .order-pages .ensures .0)) (r .ran .given .1) (rw (left .list) at (c .before .before .last-stages .ensures))
 
 pub from-order-spec : {M : Type 1} → statement M
 from-order-spec =
     tie.close
     (tie.spec
-    make-order-requires
+    order-pages-requires
     (λ c. search needs)
     (λ c. search needs)
     (λ c. search needs)
     returns
-    (λ c κs. search needs)
     last-stages-requires
     (λ c. search needs)
     returns-2)

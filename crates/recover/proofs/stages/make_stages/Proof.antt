@@ -7,53 +7,60 @@ use borrow.Author.Needs.{needs}
 use Rattle.recover.proofs.stages.make_stages.Statement.{statement}
 use Rattle.recover.proofs.stages.make_stages.Tie as tie
 
-make-order-requires : tie.Need-make-order-requires
-make-order-requires c κs = (c .before .before .pre .1 .sized, held-placed (c .before .before .args .image .now) (c .before .before .pre .3) (c .before .before .pre .1))
+order-pages-requires : tie.Need-order-pages-requires
+order-pages-requires c κs = (c .before .before .pre .1 .sized, held-placed (c .before .before .args .image .now) (c .before .before .pre .3) (c .before .before .pre .1))
 
 returns : tie.Need-returns
 returns c =
-    let a = c .before .before .before .before .before .before .before in
-    all-stop (rw (a .pre .1 .list) at (c .before .before .before .before .make-order .ensures)) (c .enum-told .given .1)
+    let o = c .before .before .before .before in
+    all-stop (rw (o .before .before .before .pre .1 .list) at (o .order-pages .ensures .0)) (c .enum-told .given .1)
 
 last-stages-requires : tie.Need-last-stages-requires
 last-stages-requires c κs =
-    let a = c .before .before .before .before .before .before .before .before .before .before .before .before in
-    let o = stage-1 (a .args .image .now) (a .pre .3) (a .pre .1) (c .before .before .before .before .before .before .before .before .before .make-order .ensures) (c .before .before .before .before .before .r .given .1) (c .before .before .before .order-table .ensures) in
-    (a .pre .0, o .sized, o .placed, o .lies)
+    let r = c .before .before .before .before in
+    let o = r .before .before .before .before in
+    let a = o .before .before .before in
+    let left = stage-1 (a .args .image .now) (a .pre .3) (a .pre .1) (o .order-pages .ensures .0) (r .ran .given .1) (o .order-pages .ensures .1) in
+    (a .pre .0, left .sized, left .placed, left .lies)
 
 returns-2 : tie.Need-returns-2
 returns-2 c =
-    let a = c .before .before .before .before .before .before .before .before .before .before .before .before .before .before .before in
-    let o = stage-1 (a .args .image .now) (a .pre .3) (a .pre .1) (c .before .before .before .before .before .before .before .before .before .before .before .before .make-order .ensures) (c .before .before .before .before .before .before .before .before .r .given .1) (c .before .before .before .before .before .before .order-table .ensures) in
-    let none-left = ap freeings (sym (o .list)) ∙ sym (c .before .before .before .before .before .count-freeing .ensures .0) ∙ c .before .before .before .before .if1 .taken in
-    none-on (rw (a .pre .1 .list) at (c .before .before .before .before .before .before .before .before .before .before .before .before .make-order .ensures)) (c .before .before .before .before .before .before .before .before .r .given .1) none-left (rw (o .list) at (c .before .before .last-stages .ensures))
+    let r = c .before .before .before .before .before .before .before in
+    let o = r .before .before .before .before in
+    let a = o .before .before .before in
+    let left = stage-1 (a .args .image .now) (a .pre .3) (a .pre .1) (o .order-pages .ensures .0) (r .ran .given .1) (o .order-pages .ensures .1) in
+    let none-left = ap freeings (sym (left .list)) ∙ sym (c .before .before .before .before .before .count-freeing .ensures .0) ∙ c .before .before .before .before .if1 .taken in
+    none-on (rw (a .pre .1 .list) at (o .order-pages .ensures .0)) (r .ran .given .1) none-left (rw (left .list) at (c .before .before .last-stages .ensures))
 
 from-finish-requires : tie.Need-from-finish-requires
 from-finish-requires c κs =
-    let a = c .before .before .before .before .before .before .before .before .before .before .before .before in
+    let r = c .before .before .before .before in
+    let o = r .before .before .before .before in
+    let a = o .before .before .before in
     let l = a .args .image .now in
-    let o = stage-1 l (a .pre .3) (a .pre .1) (c .before .before .before .before .before .before .before .before .before .make-order .ensures) (c .before .before .before .before .before .r .given .1) (c .before .before .before .order-table .ensures) in
+    let left = stage-1 l (a .pre .3) (a .pre .1) (o .order-pages .ensures .0) (r .ran .given .1) (o .order-pages .ensures .1) in
     let n = c .before .before .count-freeing .ensures in
-    let sequences = rw (← o .list) at (sequences-left l (a .pre .3) (a .pre .4) _ (n .0 ∙ ap freeings (o .list)) (c .before .if1 .left) (n .1)) in
-    (a .pre .0, o .sized, o .placed, n .0, sequences, o .whole (a .pre .2), o .few)
+    let sequences = rw (← left .list) at (sequences-left l (a .pre .3) (a .pre .4) _ (n .0 ∙ ap freeings (left .list)) (c .before .if1 .left) (n .1)) in
+    (a .pre .0, left .sized, left .placed, n .0, sequences, left .whole (a .pre .2), left .few)
 
 returns-3 : tie.Need-returns-3
 returns-3 c =
-    let a = c .before .before .before .before .before .before .before .before .before .before .before .before .before .before .before in
-    let o = stage-1 (a .args .image .now) (a .pre .3) (a .pre .1) (c .before .before .before .before .before .before .before .before .before .before .before .before .make-order .ensures) (c .before .before .before .before .before .before .before .before .r .given .1) (c .before .before .before .before .before .before .order-table .ensures) in
-    let count = c .before .before .before .before .before .count-freeing .ensures .0 ∙ ap freeings (o .list) in
-    some-on (rw (a .pre .1 .list) at (c .before .before .before .before .before .before .before .before .before .before .before .before .make-order .ensures)) (c .before .before .before .before .before .before .before .before .r .given .1) (λ e. c .before .before .before .before .if1 .left (count ∙ e)) (rw (o .list, o .free) at (c .before .before .from-finish .ensures))
+    let r = c .before .before .before .before .before .before .before in
+    let o = r .before .before .before .before in
+    let a = o .before .before .before in
+    let left = stage-1 (a .args .image .now) (a .pre .3) (a .pre .1) (o .order-pages .ensures .0) (r .ran .given .1) (o .order-pages .ensures .1) in
+    let count = c .before .before .before .before .before .count-freeing .ensures .0 ∙ ap freeings (left .list) in
+    some-on (rw (a .pre .1 .list) at (o .order-pages .ensures .0)) (r .ran .given .1) (λ e. c .before .before .before .before .if1 .left (count ∙ e)) (rw (left .list, left .free) at (c .before .before .from-finish .ensures))
 
 pub make-stages-spec : {M : Type 1} → statement M
 make-stages-spec =
     tie.close
     (tie.spec
-    make-order-requires
+    order-pages-requires
     (λ c. search needs)
     (λ c. search needs)
     (λ c. search needs)
     returns
-    (λ c κs. search needs)
     (λ c κs. search needs)
     last-stages-requires
     (λ c. search needs)
