@@ -1,4 +1,4 @@
--- One place more: its item is passed over, or put at the free slot at which the search for its name stops. Assumes nothing.
+-- One place more: its item is passed over, or put at the free slot at which the search for its name ends. Assumes nothing.
 use mathlib.Core.Path.{_≡_, refl, sym, ap, _∙_}
 use mathlib.Core.Logic.{inl}
 use mathlib.Core.Bool.{Bool, true, false}
@@ -19,10 +19,14 @@ use Rattle.lists.proofs.Sums.{sum-append, sum-zero}
 use Rattle.found.specs.Places.{Placed}
 use Rattle.lists.specs.Each.{Each}
 use Rattle.lists.proofs.Each.{each-append, each-of, of-each}
-use Rattle.quick.specs.Names.{judged, nameOf}
-use Rattle.quick.specs.Slots.{EachSlot, Leads, rawAt, stopOf, told}
+use Rattle.quick.specs.Names.{judged, nameOf, slotIn, slotOf}
+use Rattle.quick.specs.Slots.{EachSlot, Leads, gap, rawAt, told}
 use Rattle.quick.specs.Fits.{Filled, Led, Named, called}
-use Rattle.quick.proofs.Looking.{each-set, told-at, told-kept, told-new}
+use Rattle.quick.proofs.Looking.{each-set, gap-told, told-kept, told-new}
+
+slot-below : (k : ℕ) → slotOf k < 4096
+unfolding slotOf slotIn
+slot-below k = omega arith
 
 -- a table of free slots has no items
 module _ (t l : List ℕ) (free : (i : ℕ) → getD t i 0 ≡ 0) where
@@ -59,19 +63,19 @@ module _ (t l ps : List ℕ) (p : ℕ) (named : Named t l ps) where
         only = λ i h. still l ps p _ (named .only i h);
       }
 
-  module _ (s : ℕ) (room : 4096 ≤ length t) (some : 1 ≤ p) (below : s < 4096) (free : getD t s 0 ≡ 0) (e : s ≡ stopOf t l (nameOf (rawAt l p))) where
+  module _ (s : ℕ) (room : 4096 ≤ length t) (some : 1 ≤ p) (free : s < 4096) (e : s ≡ gap t l (nameOf (rawAt l p)) 64 (slotOf (nameOf (rawAt l p)))) where
     abbrev k : ℕ
     k = nameOf (rawAt l p)
 
-    new : told (set t s p) l k ≡ p
-    new = rw e (told-new t l k p some (eq-eqb k k refl) room (rw e at below) (rw e at free))
+    new : (getD t s 0 ≡ 0) × (told (set t s p) l k ≡ p)
+    new = rw e (told-new t l k p some (eq-eqb k k refl) room (rw e at free) (slot-below k))
 
     -- its name was not there
     unheard : (q : ℕ) → q ∈ ps → (b : Bool) → called k (rawAt l q) ≡ b → one b ≡ 0
     unheard q m true c =
         let r = rawAt l q in
         let o = of-each (Led t l) ps (named .led) q m (both-first (judged r) _ c) in
-        let z : told t l k ≡ 0 = told-at t l k (rw e at below) ∙ rw e at free in
+        let z = gap-told t l k (rw e at free) in
         let w : told t l k ≡ q = ap (told t l) (sym (eqb-true (nameOf r) k (both-second (judged r) _ c))) ∙ o .1 in
         absurd (omega (arith, o .0))
     unheard q m false c = refl
@@ -92,8 +96,8 @@ module _ (t l ps : List ℕ) (p : ℕ) (named : Named t l ps) where
     named-put =
         record {
           led = each-append (Led (set t s p) l) ps (p ∷ [])
-              (each-of (Led (set t s p) l) ps (λ q m j. let o = of-each (Led t l) ps (named .led) q m j in (o .0, told-kept t l (nameOf (rawAt l q)) s p free (omega (arith, o)) ∙ o .1)))
-              (λ j. (some, new), tt);
+              (each-of (Led (set t s p) l) ps (λ q m j. let o = of-each (Led t l) ps (named .led) q m j in (o .0, told-kept t l (nameOf (rawAt l q)) s p (new .0) (omega (arith, o)) ∙ o .1)))
+              (λ j. (some, new .1), tt);
           once = once;
           only = each-set (λ (q : ℕ). some-of (eqb q) (ps ++ (p ∷ [])) ≡ true) t s p (omega arith) (λ i h. still l ps p _ (named .only i h)) (last l ps p);
         }
@@ -109,12 +113,12 @@ module _ (t u l ps : List ℕ) (i : ℕ) (here : i < length ps) (before : Filled
   pub passed : judged (rawAt l (getD ps i 0)) ≡ false → Filled t u l (take (i + 1) ps)
   passed e = record { leads = before .leads; named = λ xs n. rw (front xs) at (named-passed u l (xs ++ take i ps) (getD ps i 0) (before .named xs n) e) }
 
-  module _ (placed : Placed l (getD ps i 0)) (s : ℕ) (below : s < 4096) (free : getD u s 0 ≡ 0) (e : s ≡ stopOf u l (nameOf (rawAt l (getD ps i 0)))) where
+  module _ (placed : Placed l (getD ps i 0)) (s : ℕ) (free : s < 4096) (e : s ≡ gap u l (nameOf (rawAt l (getD ps i 0))) 64 (slotOf (nameOf (rawAt l (getD ps i 0))))) where
     pub put : Filled t (set u s (getD ps i 0)) l (take (i + 1) ps)
     put =
         let p = getD ps i 0 in
         let room = before .leads .room in
         record {
           leads = record { room = simp length-set room; each = each-set (Placed l) u s p (omega arith) (before .leads .each) placed };
-          named = λ xs n. rw (front xs) at (named-put u l (xs ++ take i ps) p (before .named xs n) s room (omega (arith, placed .entries)) below free e);
+          named = λ xs n. rw (front xs) at (named-put u l (xs ++ take i ps) p (before .named xs n) s room (omega (arith, placed .entries)) free e);
         }

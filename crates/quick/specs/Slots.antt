@@ -2,7 +2,7 @@
 use mathlib.Core.Bool.{Bool, cond}
 use mathlib.Core.List.{List}
 use Prim.Native.Nat.{ℕ, zero, suc, _+_, _%_, _≤_}
-use lib.Dec.{eqb, ltb}
+use lib.Dec.{eqb}
 use lib.ListN.{length, getD}
 use Rattle.found.specs.Places.{itemAt, Placed}
 use Rattle.quick.specs.Names.{nameOf, slotOf}
@@ -24,15 +24,16 @@ pub record Leads (t l : List ℕ) : Type 0 where
 abbrev pub hit : List ℕ → ℕ → ℕ → Bool
 hit l k p = eqb (nameOf (rawAt l p)) k
 
--- the slot at which the search for the name k stops, of n slots from slot i on around: a free one, or one that leads to a hit; 4096 where none is either
-unfoldable pub stop : List ℕ → List ℕ → ℕ → ℕ → ℕ → ℕ
-stop t l k zero i = 4096
-stop t l k (suc n) i = cond (eqb (getD t i 0) 0) i (cond (hit l k (getD t i 0)) i (stop t l k n ((i + 1) % 4096)))
+-- the first place that is a hit, of n slots from slot i on around; 0 where a free slot comes before it, or there is none
+unfoldable pub look : List ℕ → List ℕ → ℕ → ℕ → ℕ → ℕ
+look t l k zero i = 0
+look t l k (suc n) i = cond (eqb (getD t i 0) 0) 0 (cond (hit l k (getD t i 0)) (getD t i 0) (look t l k n ((i + 1) % 4096)))
 
--- 64 slots are looked at, so that names that crowd one slot cost no more than a sort
-unfoldable pub stopOf : List ℕ → List ℕ → ℕ → ℕ
-stopOf t l k = stop t l k 64 (slotOf k)
-
--- the place to which the table leads from the name k: the one in that slot; 0 where it is free, or there is none
+-- the place to which the table leads from the name k: 64 slots are looked at, so that names that crowd one slot cost no more than a sort
 unfoldable pub told : List ℕ → List ℕ → ℕ → ℕ
-told t l k = let s = stopOf t l k in cond (ltb s 4096) (getD t s 0) 0
+told t l k = look t l k 64 (slotOf k)
+
+-- the first free slot, of n slots from slot i on around; 4096 where a hit comes before it, or there is none
+unfoldable pub gap : List ℕ → List ℕ → ℕ → ℕ → ℕ → ℕ
+gap t l k zero i = 4096
+gap t l k (suc n) i = cond (eqb (getD t i 0) 0) i (cond (hit l k (getD t i 0)) 4096 (gap t l k n ((i + 1) % 4096)))

@@ -11,7 +11,8 @@ ghost use lib.ListN.{getD};
 ghost use Rattle.found.specs.Places.{Placed};
 ghost use Rattle.lists.specs.Each.{Each};
 ghost use Rattle.found.specs.Ranks.{rankNumber};
-ghost use Rattle.quick.specs.Slots.{stopOf, told, Leads};
+ghost use Rattle.quick.specs.Names.{slotOf};
+ghost use Rattle.quick.specs.Slots.{told, gap, Leads};
 ghost use Rattle.quick.specs.Fits.{Filled};
 
 pub fn clear(slots: &mut [u16])
@@ -24,10 +25,31 @@ pub fn clear(slots: &mut [u16])
     }
 }
 
-// The slot at which the search for a name stops: a free one, or one that leads to an item of that name; 4096 where none of 64 is either.
-fn stop_of(image: &[u8], slots: &[u16], name: Rank) -> usize
+// The place of the item to which the table leads from a name; 0 where it leads to none.
+pub fn find(image: &[u8], slots: &[u16], name: Rank) -> usize
     requires { ⌜ Leads (now slots) (now image) ⌝ }
-    ensures { λ r. ⌜ r ≡ stopOf (now (slots .entry)) (now (image .entry)) (rankNumber name) ⌝ }
+    ensures { λ r. ⌜ (r ≡ told (now (slots .entry)) (now (image .entry)) (rankNumber name)) × (1 ≤ r → Placed (now (image .entry)) r) ⌝ }
+{
+    let mut i = slot_of(name);
+    let mut n: usize = 0;
+    while n < 64 {
+        let place = slots[i] as usize;
+        if place == 0 {
+            return 0;
+        }
+        if has_name(image, place, name) {
+            return place;
+        }
+        i = (i + 1) % 4096;
+        n += 1;
+    }
+    0
+}
+
+// The free slot at which the search for a name ends; 4096 where it finds the name, or none of 64 slots is free.
+fn free_slot(image: &[u8], slots: &[u16], name: Rank) -> usize
+    requires { ⌜ Leads (now slots) (now image) ⌝ }
+    ensures { λ r. ⌜ r ≡ gap (now (slots .entry)) (now (image .entry)) (rankNumber name) 64 (slotOf (rankNumber name)) ⌝ }
 {
     let mut i = slot_of(name);
     let mut n: usize = 0;
@@ -37,24 +59,12 @@ fn stop_of(image: &[u8], slots: &[u16], name: Rank) -> usize
             return i;
         }
         if has_name(image, place, name) {
-            return i;
+            return 4096;
         }
         i = (i + 1) % 4096;
         n += 1;
     }
     4096
-}
-
-// The place of the item to which the table leads from a name; 0 where it leads to none.
-pub fn find(image: &[u8], slots: &[u16], name: Rank) -> usize
-    requires { ⌜ Leads (now slots) (now image) ⌝ }
-    ensures { λ r. ⌜ (r ≡ told (now (slots .entry)) (now (image .entry)) (rankNumber name)) × (1 ≤ r → Placed (now (image .entry)) r) ⌝ }
-{
-    let at = stop_of(image, slots, name);
-    if 4096 <= at {
-        return 0;
-    }
-    slots[at] as usize
 }
 
 // Puts each judged item into the table. Says whether none has a name that is there already: the table then leads from each one's name to it.
@@ -69,14 +79,11 @@ pub fn fill(image: &[u8], places: &[u16], slots: &mut [u16]) -> bool
         if !is_judged(image, place) {
             continue;
         }
-        let at = stop_of(image, slots, name_at(image, place));
-        if 4096 <= at {
+        let free = free_slot(image, slots, name_at(image, place));
+        if 4096 <= free {
             return false;
         }
-        if 0 < slots[at] {
-            return false;
-        }
-        slots[at] = place as u16;
+        slots[free] = place as u16;
     }
     true
 }

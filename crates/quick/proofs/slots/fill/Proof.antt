@@ -45,35 +45,30 @@ loop-again c =
 name-at-requires : tie.Need-name-at-requires Inv-loop μ-loop
 name-at-requires c κs = let p = c .before .before .before in rw (p .place-at .ensures) (there p)
 
-stop-of-requires : tie.Need-stop-of-requires Inv-loop μ-loop
-stop-of-requires c κs = c .before .before .before .before .before .before .loop .inv .2 .leads
+free-slot-requires : tie.Need-free-slot-requires Inv-loop μ-loop
+free-slot-requires c κs = c .before .before .before .before .before .before .loop .inv .2 .leads
 
 returns : tie.Need-returns Inv-loop μ-loop
 returns c = λ e. absurd (true≢false e refl)
 
-returns-2 : tie.Need-returns-2 Inv-loop μ-loop
-returns-2 c = λ e. absurd (true≢false e refl)
-
 cast-slots : tie.Need-cast-slots Inv-loop μ-loop
 cast-slots c =
-    let p = c .before .before .before .before .before .before .before .before in
+    let p = c .before .before .before .before .before .before in
     omega (arith, p .place-at .ensures, p .before .before .before .before .shared-slice-known2 .given (p .before .before .loop .i))
 
 loop-again-2 : tie.Need-loop-again-2 Inv-loop μ-loop
 loop-again-2 c =
-    let s = c .before .before .before in
-    let p = s .before .before .before .before .before in
+    let p = c .before .before .before .before .before .before in
     let l = p .before .before in
     let a = l .before .before .before .before in
     let image = a .args .image .now in
     let places = a .args .places .now in
-    let name = rw (p .place-at .ensures) at (s .before .name-at .ensures) in
-    let stops = rw name at (s .stop-of .ensures) in
-    let free : getD (l .loop .slots) (s .stop-of .result) 0 ≡ 0 = omega (arith, c .if3 .left) in
-    (simp length-set (l .loop .inv .0), omega arith, rw (p .place-at .ensures) (put (a .args .slots .now) (l .loop .slots) image places (l .loop .i) (omega arith) (l .loop .inv .2) (there p) (s .stop-of .result) (omega arith) free stops))
+    let name = rw (p .place-at .ensures) at (c .before .before .name-at .ensures) in
+    let free = rw name at (c .before .free-slot .ensures) in
+    (simp length-set (l .loop .inv .0), omega arith, rw (p .place-at .ensures) (put (a .args .slots .now) (l .loop .slots) image places (l .loop .i) (omega arith) (l .loop .inv .2) (there p) (c .before .free-slot .result) (omega arith) free))
 
-returns-3 : tie.Need-returns-3 Inv-loop μ-loop
-returns-3 c =
+returns-2 : tie.Need-returns-2 Inv-loop μ-loop
+returns-2 c =
     let l = c .before .loop in
     λ e. rw (take-all (l .i) (c .before .before .before .before .before .args .places .now) (omega arith)) at (l .inv .2)
 
@@ -90,17 +85,13 @@ fill-spec =
     (λ c. search needs)
     loop-again
     name-at-requires
-    stop-of-requires
+    free-slot-requires
     (λ c. search needs)
     returns
-    (λ c. search needs)
-    (λ c. search needs)
-    (λ c. search needs)
-    returns-2
     cast-slots
     (λ c. search needs)
     (λ c. search needs)
     (λ c. search needs)
     loop-again-2
     (λ c. search needs)
-    returns-3)
+    returns-2)
