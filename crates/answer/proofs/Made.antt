@@ -1,8 +1,8 @@
 -- Steps with stages, in sequence: the first so many of a list, and what the next ones find. Assumes nothing.
 use mathlib.Core.Path.{_≡_, refl, sym, ap, _∙_}
-use mathlib.Core.List.{List, [], _∷_, _++_, map}
+use mathlib.Core.List.{List, [], _∷_, _++_}
 use mathlib.Core.Logic.{_⊎_, inl, inr}
-use Prim.Native.Nat.{ℕ, zero, suc, _+_, _-_, _≤_, _<_}
+use Prim.Native.Nat.{ℕ, zero, suc, _-_, _≤_, _<_}
 use native.Mathlib.Omega.{arith}
 use lib.ListN.{length, take, length-map, length-append}
 use lib.Seq.{take-all, length-take-le}
@@ -13,6 +13,7 @@ use Rattle.flash.specs.Did.{Did}
 use Rattle.flash.proofs.Answer.{ran-le, ran-gt, ran-done, ran-stopped}
 use Rattle.flash.proofs.Laws.{did-then, did-stop, did-none, did-all}
 use Rattle.flash.proofs.Order.{le-or-gt}
+use Rattle.lists.proofs.Parts.{take-map}
 use Rattle.answer.specs.declared.Stage.{Stage}
 use Rattle.answer.specs.declared.Went.{Went}
 use Rattle.answer.specs.declared.Went.the-variants.{Ended, Short}
@@ -36,12 +37,7 @@ untag-append (t ∷ a) b = ap {B = List Step} (λ (r : List Step). t .step ∷ r
 
 pub untag-take : (n : ℕ) (ts : List Staged) → length (take n ts) ≡ length (take n (untag ts))
 unfolding untag
-untag-take n ts = sym (ap length (take-map n ts) ∙ length-map (take n ts) (λ (t : Staged). t .step))
-  where
-    take-map : (n : ℕ) (ts : List Staged) → take n (map (λ (t : Staged). t .step) ts) ≡ map (λ (t : Staged). t .step) (take n ts)
-    take-map zero ts = refl
-    take-map (suc n) [] = refl
-    take-map (suc n) (t ∷ ts) = ap {B = List Step} (λ (r : List Step). t .step ∷ r) (take-map n ts)
+untag-take n ts = sym (ap length (take-map (λ (t : Staged). t .step) n ts) ∙ length-map (take n ts) (λ (t : Staged). t .step))
 
 -- ---- how far steps go
 

@@ -7,6 +7,7 @@ use Prim.Native.Nat.{ℕ}
 use native.Mathlib.Omega.{arith}
 use lib.Dec.{T, eqb, T-not}
 use borrow.Author.Tests.{eqb-true, eqb-false}
+use Rattle.lists.proofs.Member.{true≢false}
 use Rattle.answer.specs.declared.Answer.{Answer}
 use Rattle.answer.specs.Answer.{numberOf}
 use Rattle.answer.specs.Staged.{Staged}
@@ -21,9 +22,6 @@ absent k (x ∷ xs) = cond (eqb (x .number) k) false (absent k xs)
 unfoldable pub once : ℕ → List Line → Bool
 once k [] = false
 once k (x ∷ xs) = cond (eqb (x .number) k) (absent k xs) (once k xs)
-
-both : {b : Bool} → b ≡ true → b ≡ false → ⊥
-both {b} p q = let z : _≡_ {A = ℕ} 0 1 = cc in omega arith
 
 -- a number that stands nowhere is not given
 never : (k : ℕ) (xs : List Line) → T (absent k xs) → numberIn xs ≡ k → ⊥
@@ -45,8 +43,8 @@ exactly k (x ∷ xs) h = go (eqb (x .number) k) refl (x .holds) refl h (exactly 
         → (T (once k xs) → (numberIn xs ≡ k) ↔ (NoneHolds (before k xs) × (conditionOf k xs ≡ true)))
         → (cond c (x .number) (numberIn xs) ≡ k) ↔ (NoneHolds (cond b [] (x ∷ before k xs)) × (cond b (x .holds) (conditionOf k xs) ≡ true))
     go true p true q h ih = (λ e. (tt, q), λ e. eqb-true (x .number) k p)
-    go true p false q h ih = (λ e. absurd (never k xs h e), λ e. absurd (both (e .1) q))
-    go false p true q h ih = (λ e. absurd (eqb-false (x .number) k p e), λ e. absurd (both q (e .0 .0)))
+    go true p false q h ih = (λ e. absurd (never k xs h e), λ e. absurd (true≢false (e .1) q))
+    go false p true q h ih = (λ e. absurd (eqb-false (x .number) k p e), λ e. absurd (true≢false q (e .0 .0)))
     go false p false q h ih = let r = ih h in (λ e. let s = r .0 e in ((q, s .0), s .1), λ e. r .1 (e .0 .1, e .1))
 
 -- every number but 0 stands in the table: 0 is given where no condition holds
@@ -62,7 +60,7 @@ none-holds (x ∷ xs) h = go (eqb (x .number) 0) refl (x .holds) refl h (none-ho
     go : (b : Bool) → eqb (x .number) 0 ≡ b → (c : Bool) → x .holds ≡ c → T (cond b false (positive xs)) → (T (positive xs) → (numberIn xs ≡ 0) ↔ NoneHolds xs)
         → (cond c (x .number) (numberIn xs) ≡ 0) ↔ ((x .holds ≡ false) × NoneHolds xs)
     go true p c q h ih = absurd h
-    go false p true q h ih = (λ e. absurd (eqb-false (x .number) 0 p e), λ e. absurd (both q (e .0)))
+    go false p true q h ih = (λ e. absurd (eqb-false (x .number) 0 p e), λ e. absurd (true≢false q (e .0)))
     go false p false q h ih = let r = ih h in (λ e. (q, r .0 e), λ e. r .1 (e .1))
 
 module _ {xs : List Line} {n : ℕ} {ts : List Staged} {r : Answer} (t : Told xs n ts r) where

@@ -1,8 +1,8 @@
 -- Those that pass are put in front, one after the other, in the list itself. Assumes nothing.
-use mathlib.Core.Path.{_≡_, refl, sym, ap, ap₂, _∙_}
+use mathlib.Core.Path.{_≡_, sym, ap, ap₂, _∙_}
 use mathlib.Core.Bool.{Bool, true, false}
 use mathlib.Core.List.{List, [], _∷_, _++_, append-nil}
-use Prim.Native.Nat.{ℕ, suc, _+_, _≤_, _<_}
+use Prim.Native.Nat.{ℕ, _+_, _≤_, _<_}
 use native.Mathlib.Omega.{arith}
 use native.Mathlib.Numerals.{add-one}
 use lib.ListN.{length, take, drop, getD, set}
@@ -20,9 +20,6 @@ module _ (P : ℕ → Bool) (r t : List ℕ) (n i k : ℕ) (some : i < n) (room 
 
   one-more : keep P (take (i + 1) t) ≡ keep P (take i t) ++ keep P (getD t i 0 ∷ [])
   one-more = rw (add-one i) (ap (keep P) (take-suc t i 0 (omega arith)) ∙ keep-append P (take i t) (getD t i 0 ∷ []))
-
-  alone : (b : Bool) → P (getD t i 0) ≡ b → keep P (getD t i 0 ∷ []) ≡ keep P (getD t i 0 ∷ [])
-  alone b e = refl
 
   pub rest-past : drop (i + 1) (take n r) ≡ drop (i + 1) (take n t)
   rest-past = sym (drop-drop 1 i (take n r)) ∙ ap (drop 1) rest ∙ drop-drop 1 i (take n t)

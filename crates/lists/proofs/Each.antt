@@ -41,7 +41,7 @@ module _ {A : Type 0} (P : A → Type 0) where
   each-append [] ys p q = q
   each-append (x ∷ xs) ys p q = (p .0, each-append xs ys (p .1) q)
 
-  -- a front of the list, what lies behind it, and the list with one more put into it
+  -- a front of the list, and what lies behind it
   pub each-take : (k : ℕ) (xs : List A) → Each P xs → Each P (take k xs)
   unfolding Each
   each-take zero xs h = tt
@@ -53,12 +53,6 @@ module _ {A : Type 0} (P : A → Type 0) where
   each-drop zero xs h = h
   each-drop (suc k) [] h = tt
   each-drop (suc k) (x ∷ xs) h = each-drop k xs (h .1)
-
-  pub each-insert : (i : ℕ) (xs : List A) (x : A) → P x → Each P xs → Each P (take i xs ++ (x ∷ drop i xs))
-  unfolding Each
-  each-insert zero xs x p h = (p, h)
-  each-insert (suc i) [] x p h = (p, h)
-  each-insert (suc i) (y ∷ xs) x p h = (h .0, each-insert i xs x p (h .1))
 
   -- the front of an array
   pub each-front : (xs : List A) (k : ℕ) (d : A) → k ≤ length xs → Each P (take k xs) → (i : ℕ) → i < k → P (getD xs i d)

@@ -1,8 +1,8 @@
 -- A turn of each loop of stage 1, and a list whose pages are closed one by one. Assumes nothing.
-use mathlib.Core.Path.{_≡_, refl, sym, ap, _∙_}
+use mathlib.Core.Path.{_≡_, sym, ap, _∙_}
 use mathlib.Core.Bool.{true, false, cond}
 use mathlib.Core.Option.{some}
-use mathlib.Core.List.{List, [], _∷_, _++_, map}
+use mathlib.Core.List.{List, [], _∷_, _++_, map, map-append}
 use Prim.Native.Nat.{ℕ, _+_, _<_}
 use native.Mathlib.Numerals.{add-one}
 use lib.ListN.{length, take, getD, set}
@@ -24,10 +24,6 @@ module _ (x : Page) (xs : List Page) where
   pub marks-other : activePage x ≡ false → fullMarks (x ∷ xs) ≡ fullMarks xs
   unfolding fullMarks keep
   marks-other e = rw e
-
-map-append : {A B : Type 0} (f : A → B) (a b : List A) → map f (a ++ b) ≡ map f a ++ map f b
-map-append f [] b = refl
-map-append {B = B} f (x ∷ a) b = ap {B = List B} (λ (r : List B). f x ∷ r) (map-append f a b)
 
 -- one page more is closed
 pub closed-more : (ys xs : List Page) (i : ℕ) (d : Page) → i < length ys → i < length xs → take i ys ≡ map closed (take i xs)

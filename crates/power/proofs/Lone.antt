@@ -2,7 +2,7 @@
 use mathlib.Core.Path.{_∙_, _≡_, ap, refl}
 use mathlib.Core.Logic.{_⊎_, inl, inr, ⊎-elim}
 use mathlib.Core.Bool.{Bool, cond, false, true}
-use mathlib.Core.Option.{none, some}
+use mathlib.Core.Option.{some}
 use mathlib.Core.List.{List, [], _∷_, map}
 use Prim.Native.Nat.{_+_, _<_, ℕ}
 use borrow.Author.Tests.{eq-eqb, eqb-true}
@@ -11,9 +11,9 @@ use Rattle.flash.specs.Step.{Step, sector}
 use Rattle.item.specs.Mark.{markFull}
 use Rattle.lists.specs.Lists.{keep, sumOf, takeOut}
 use Rattle.lists.proofs.Sums.{sum-append, sum-one}
-use Rattle.lists.proofs.Search.{best-in, best-some, in-keep, keep-in, keep-none}
+use Rattle.lists.proofs.Search.{best-in, keep-in, keep-none}
 use Rattle.lists.proofs.Out.{in-out, out-in, out-other, sum-out}
-use Rattle.lists.proofs.Member.{_∈_, in-append, in-left, in-right, none≢some, refuted, true≢false}
+use Rattle.lists.proofs.Member.{_∈_, in-append, in-left, in-right, refuted, true≢false}
 use Rattle.table.specs.declared.Page.{Page}
 use Rattle.table.specs.Table.{active, activePage, asFull, inSector, pages, sectorsOf}
 use Rattle.table.proofs.Pages.{once, page-same, page-state, pages-in}
@@ -106,8 +106,3 @@ module _ (l : List ℕ) (L : Lone l) (a : Page) (q : kept (pages l) ≡ some a) 
           not-a : (p : Page) → activePage p ≡ false → (b : Bool) → inSector (a .sector) p ≡ b → p ∈ pages l → b ≡ false
           not-a p e false r m = refl
           not-a p e true r m = absurd (true≢false (ap {B = Bool} (λ (p : Page). activePage p) (a-only p m r) ∙ a-in .1) e)
-
--- no Active page
-pub none-active : (l : List ℕ) → kept (pages l) ≡ none → (p : Page) → p ∈ pages l → activePage p ≡ false
-unfolding kept
-none-active l q p m = refuted (activePage p) (λ e. none≢some q (best-some _ (keep activePage (pages l)) p (in-keep activePage (pages l) p m e) .1))
