@@ -1,6 +1,6 @@
 -- Rule. Document 01, Recovery: "4. Duplicates. Items left that are not chunks and not of namespace 0, grouped by namespace and key, groups ascending: all but
 -- the newest are erased, oldest first." It judges by the items fs found as it begins. Assumes nothing.
-use mathlib.Core.Bool.{Bool, true, false, cond, not, _&&_}
+use mathlib.Core.Bool.{Bool, cond, not, _&&_}
 use mathlib.Core.Option.{Option, none, some}
 use mathlib.Core.List.{List, [], _∷_, _++_, map, flatMap, getLast?, dropLast}
 use Prim.Native.Nat.{ℕ}

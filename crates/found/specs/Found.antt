@@ -1,7 +1,7 @@
 -- Rule. Document 01, Recovery 3 and 4: the items found on the listed pages as a stage begins, their age, and the versions and groups they belong to.
 -- Assumes nothing.
-use mathlib.Core.Bool.{Bool, true, false, cond, not, _&&_, _||_}
-use mathlib.Core.List.{List, [], _∷_, map, flatMap}
+use mathlib.Core.Bool.{Bool, true, false, cond, _&&_, _||_}
+use mathlib.Core.List.{List, map, flatMap}
 use Prim.Native.Nat.{ℕ, _+_, _*_, _^_}
 use lib.Dec.{eqb, leb, ltb}
 use Rattle.entry.specs.declared.kinds.Kind.{Kind}

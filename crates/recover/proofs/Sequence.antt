@@ -5,7 +5,7 @@ use Prim.Native.Nat.{ℕ, zero, suc}
 use native.Mathlib.Omega.{arith}
 use Rattle.flash.specs.declared.Ran.{Ran}
 use Rattle.flash.specs.declared.Ran.the-variants.{Done, Stopped}
-use Rattle.flash.specs.Step.{Step, run}
+use Rattle.flash.specs.Step.{run}
 use Rattle.flash.specs.Did.{Did}
 use Rattle.answer.specs.declared.Stage.{Stage}
 use Rattle.answer.specs.declared.Stage.the-variants.{Order, Blobs, Duplicates}

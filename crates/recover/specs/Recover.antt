@@ -1,10 +1,10 @@
 -- Rule. Document 01, Recovery, in order: the list of steps that the rules give for an image l, each with its stage. Each stage reads the image that the steps
 -- before it left. Assumes nothing.
 use mathlib.Core.Bool.{Bool, cond, not, _&&_}
-use mathlib.Core.List.{List, [], _∷_, _++_}
+use mathlib.Core.List.{List, [], _++_}
 use Prim.Native.Nat.{ℕ, zero, suc, _-_}
 use lib.Dec.{leb, ltb}
-use Rattle.flash.specs.Step.{Step, run}
+use Rattle.flash.specs.Step.{run}
 use Rattle.answer.specs.declared.Stage.the-variants.{Order, Blobs, Duplicates}
 use Rattle.answer.specs.Staged.{Staged, tag, untag}
 use Rattle.lists.specs.Lists.{greatest}

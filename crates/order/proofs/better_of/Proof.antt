@@ -1,7 +1,6 @@
 -- `order::better_of` meets its contract: each test that led to a return decides the definition's. Assumes nothing.
 use borrow.Author.Tests.{lt-ltb, le-ltb, not-true, not-false}
 use Rattle.table.specs.Sought.{betterAmong}
-use Prim.Native.Nat.{_-_}
 use borrow.Author.Needs.{needs}
 use Rattle.order.proofs.better_of.Statement.{statement}
 use Rattle.order.proofs.better_of.Tie as tie

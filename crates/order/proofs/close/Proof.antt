@@ -1,5 +1,4 @@
 -- `order::close` meets its contract: the test decides. Assumes nothing.
-use Prim.Native.Nat.{_-_}
 use borrow.Author.Needs.{needs}
 use Rattle.order.proofs.close.Statement.{statement}
 use Rattle.order.proofs.close.Tie as tie

@@ -1,6 +1,5 @@
 -- `order::kept_as` meets its contract: the test decides. Assumes nothing.
 use borrow.Author.Tests.{eq-eqb, ne-eqb}
-use Prim.Native.Nat.{_-_}
 use borrow.Author.Needs.{needs}
 use Rattle.order.proofs.kept_as.Statement.{statement}
 use Rattle.order.proofs.kept_as.Tie as tie

@@ -1,5 +1,4 @@
 -- `order::mark_all` meets its contract: the marks of the pages from here on, made on the image as it is, are the whole. Assumes nothing.
-use mathlib.Core.Bool.{true, false}
 use borrow.Author.Tests.{not-true, not-false}
 use Rattle.flash.specs.Did.{Goes}
 use Rattle.flash.proofs.Laws.{goes-start, goes-on, goes-stop, goes-end, goes-same}

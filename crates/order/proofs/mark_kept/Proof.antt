@@ -2,7 +2,6 @@
 use borrow.Author.Tests.{eq-eqb, ne-eqb}
 use Rattle.flash.proofs.Laws.{did-none}
 use Rattle.order.specs.Turns.{keptMark}
-use Prim.Native.Nat.{_-_}
 use borrow.Author.Needs.{needs}
 use Rattle.order.proofs.mark_kept.Statement.{statement}
 use Rattle.order.proofs.mark_kept.Tie as tie

@@ -2,9 +2,6 @@
 use borrow.Author.Needs.{needs}
 use Rattle.records.proofs.no_rows.Statement.{statement}
 use Rattle.records.proofs.no_rows.Tie as tie
-use Rattle.records.proofs.no_rows.Reads as reads
-use Rattle.records.proofs.no_rows.Lts as lts
-use Rattle.records.proofs.blank_record.Reads as blank-record-reads
 
 -- src/lib.rt:33:17
 blank-record-requires : tie.Need-blank-record-requires

@@ -14,10 +14,6 @@ use Rattle.records.proofs.Reading.{row-read}
 use Rattle.flash.proofs.Sectors.{lent-sector}
 use Rattle.records.proofs.read_rows.Statement.{statement}
 use Rattle.records.proofs.read_rows.Tie as tie
-use Rattle.records.proofs.read_rows.Reads as reads
-use Rattle.records.proofs.read_rows.Lts as lts
-use Rattle.page.proofs.page_record.Reads as page-record-reads
-use Rattle.records.proofs.blank_record.Reads as blank-record-reads
 
 abbrev Inv-loop : tie.InvT-loop
 Inv-loop t image sectors rows₀ n₀ rows n = (length rows ≡ 16) × (n ≤ sectors) × (rows ≡ rowsOf image n .rows)

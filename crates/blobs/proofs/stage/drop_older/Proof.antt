@@ -1,5 +1,5 @@
 -- `blobs::drop_older` meets its contract: what is found of the two versions decides which goes. Assumes nothing.
-use mathlib.Core.Path.{refl, sym, ap, _∙_}
+use mathlib.Core.Path.{sym, ap, _∙_}
 use mathlib.Core.Bool.{true, false}
 use Prim.Native.Nat.{ℕ}
 use lib.Dec.{eqb}

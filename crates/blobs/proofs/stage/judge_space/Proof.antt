@@ -1,7 +1,5 @@
 -- `blobs::judge_space` meets its contract: start 0 comes before start 0x80. Assumes nothing.
-use mathlib.Core.Path.{_≡_, refl, sym, _∙_}
-use mathlib.Core.List.{flatMap}
-use native.Mathlib.Omega.{arith}
+use mathlib.Core.Path.{refl}
 use lib.Dec.{lit<}
 use borrow.Author.Needs.{needs}
 use Rattle.flash.proofs.Laws.{goes-start, goes-on, goes-stop, goes-last}

@@ -1,5 +1,5 @@
 -- `blobs::judge_version` meets its contract: the index that counts, and whether it is right, decide the definition's cases. Assumes nothing.
-use mathlib.Core.Path.{refl, sym, ap, _∙_}
+use mathlib.Core.Path.{sym, ap, _∙_}
 use borrow.Author.Needs.{needs}
 use Rattle.flash.proofs.Laws.{did-none}
 use Rattle.found.specs.Ranks.{rankNumber}

@@ -1,12 +1,8 @@
 -- `blobs::take_parts` meets its contract: "the older-of-two after all others". Assumes nothing.
-use mathlib.Core.Path.{_≡_, refl, sym, _∙_}
-use mathlib.Core.List.{flatMap}
-use native.Mathlib.Omega.{arith}
-use lib.Dec.{lit<}
+use mathlib.Core.Path.{refl}
 use borrow.Author.Needs.{needs}
 use Rattle.flash.proofs.Laws.{goes-start, goes-on, goes-stop, goes-last}
 use Rattle.found.proofs.Alike.{alike-trans, each-alike, items-alike}
-use Rattle.blobs.specs.Runs.{spaceSteps}
 use Rattle.blobs.proofs.stage.take_parts.Statement.{statement}
 use Rattle.blobs.proofs.stage.take_parts.Tie as tie
 

@@ -1,6 +1,5 @@
 -- `duplicates::take_aged` meets its contract: behind the chunks stand the others, oldest first. Assumes nothing.
 use mathlib.Core.Path.{_≡_, sym}
-use native.Mathlib.Omega.{arith}
 use lib.ListN.{drop}
 use borrow.Author.Needs.{needs}
 use Rattle.found.specs.Places.{itemAt, itemsAt, Placed}

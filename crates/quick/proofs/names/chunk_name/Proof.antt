@@ -1,5 +1,5 @@
 -- `quick::chunk_name` meets its contract: the number is added in front of the key. Assumes nothing.
-use Prim.Native.Nat.{_+_, _*_, _-_, _^_}
+use Prim.Native.Nat.{_+_, _*_, _^_}
 use native.Mathlib.Nat.{add-assoc, add-mul}
 use borrow.Author.Needs.{needs}
 use Rattle.entry.specs.Fields.{keyNumber}

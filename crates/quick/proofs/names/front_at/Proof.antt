@@ -1,7 +1,6 @@
 -- `quick::front_at` meets its contract: a chunk is told apart as the definition does. Assumes nothing.
 use mathlib.Core.Path.{_≡_, sym, _∙_}
 use mathlib.Core.Bool.{true, false}
-use Prim.Native.Nat.{_-_}
 use native.Mathlib.Omega.{arith}
 use borrow.Author.Needs.{needs}
 use Rattle.entry.specs.Fields.{namespaceOf, chunkIndexOf}

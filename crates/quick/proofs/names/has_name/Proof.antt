@@ -1,6 +1,6 @@
 -- `quick::has_name` meets its contract: names are compared as their numbers are. Assumes nothing.
 use mathlib.Core.Path.{ap, _∙_}
-use Prim.Native.Nat.{ℕ, _-_}
+use Prim.Native.Nat.{ℕ}
 use lib.Dec.{eqb}
 use borrow.Author.Needs.{needs}
 use Rattle.found.specs.Ranks.{rankNumber}

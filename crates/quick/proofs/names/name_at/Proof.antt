@@ -1,5 +1,4 @@
 -- `quick::name_at` meets its contract: the front, then the key. Assumes nothing.
-use Prim.Native.Nat.{_-_}
 use borrow.Author.Needs.{needs}
 use Rattle.found.proofs.Reading.{key-here}
 use Rattle.quick.specs.Names.{nameOf}

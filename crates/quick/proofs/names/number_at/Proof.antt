@@ -1,5 +1,4 @@
 -- `quick::number_at` meets its contract: the chunk index stands at its place. Assumes nothing.
-use Prim.Native.Nat.{_-_}
 use native.Mathlib.Omega.{arith}
 use borrow.Author.Needs.{needs}
 use Rattle.found.proofs.Reading.{byte-at}
