@@ -6,13 +6,13 @@ use Prim.Native.Nat.{ℕ}
 use Rattle.lists.specs.Lists.{keep, best}
 use Rattle.found.specs.Found.{Found, newer, indexOf}
 use Rattle.blobs.specs.Blobs.{indices, counting}
-use Rattle.blobs.specs.Search.{indexOfEither, newest, newestWith}
+use Rattle.blobs.specs.Search.{indexOfEither, newestIndex, newestWith}
 
-pub newest-more : (v w : ℕ) (x : Found) (xs : List Found) → newest v w (x ∷ xs) ≡ newestWith v w x (newest v w xs)
-unfolding newest newestWith keep best
+pub newest-more : (v w : ℕ) (x : Found) (xs : List Found) → newestIndex v w (x ∷ xs) ≡ newestWith v w x (newestIndex v w xs)
+unfolding newestIndex newestWith keep best
 newest-more v w x xs = go (indexOfEither v w (x .raw)) refl
   where
-    go : (b : Bool) → indexOfEither v w (x .raw) ≡ b → newest v w (x ∷ xs) ≡ newestWith v w x (newest v w xs)
+    go : (b : Bool) → indexOfEither v w (x .raw) ≡ b → newestIndex v w (x ∷ xs) ≡ newestWith v w x (newestIndex v w xs)
     go true e = rw e
     go false e = rw e
 
@@ -26,6 +26,6 @@ unfolding keep
 keep-one v [] = refl
 keep-one v (x ∷ xs) = rw (same-test (indexOf v (x .raw)), keep-one v xs)
 
-pub newest-counts : (v : ℕ) (fs : List Found) → newest v v fs ≡ counting v fs
-unfolding newest counting
+pub newest-counts : (v : ℕ) (fs : List Found) → newestIndex v v fs ≡ counting v fs
+unfolding newestIndex counting
 newest-counts v fs = ap (best newer) (keep-one v fs)

@@ -8,7 +8,7 @@ use lib.Dec.{eqb}
 use Rattle.lists.proofs.Member.{cond-same, none≢some}
 use Rattle.found.specs.Found.{Found, versionOf}
 use Rattle.blobs.specs.Blobs.{counting, sound, dropVersion, versionIn, soundOne, bothSound, dropCounting, olderWith, older}
-use Rattle.blobs.specs.Search.{newest, soundIndex}
+use Rattle.blobs.specs.Search.{newestIndex, soundIndex}
 
 module _ (v : ℕ) (fs : List Found) where
   pub sound-none : soundIndex v fs ≡ none → soundOne v fs (counting v fs) ≡ false
@@ -43,20 +43,20 @@ module _ (g : ℕ) (fs : List Found) where
   older-first e = rw (sound-none v fs e)
 
   pub older-second : soundIndex w fs ≡ none → older fs g ≡ []
-  unfolding older bothSound newest
+  unfolding older bothSound newestIndex
   older-second e = go (soundOne v fs (counting v fs)) (soundOne w fs (counting w fs)) (sound-none w fs e)
     where
-      go : (a b : Bool) → b ≡ false → cond (a && b) (olderWith v w fs (newest v w fs)) [] ≡ []
+      go : (a b : Bool) → b ≡ false → cond (a && b) (olderWith v w fs (newestIndex v w fs)) [] ≡ []
       go true b q = rw q
       go false b q = refl
 
-  pub older-none : newest v w fs ≡ none → older fs g ≡ []
-  unfolding older newest olderWith
+  pub older-none : newestIndex v w fs ≡ none → older fs g ≡ []
+  unfolding older newestIndex olderWith
   older-none e = rw e (cond-same (bothSound fs v w))
 
-  pub older-some : (i j k : Found) (t : Bool) → soundIndex v fs ≡ some i → soundIndex w fs ≡ some j → newest v w fs ≡ some k → eqb (versionOf (k .raw)) v ≡ t
+  pub older-some : (i j k : Found) (t : Bool) → soundIndex v fs ≡ some i → soundIndex w fs ≡ some j → newestIndex v w fs ≡ some k → eqb (versionOf (k .raw)) v ≡ t
       → older fs g ≡ cond t (dropVersion w j fs) (dropVersion v i fs)
-  unfolding older bothSound newest olderWith dropCounting
+  unfolding older bothSound newestIndex olderWith dropCounting
   older-some i j k t a b e q =
       let x = sound-some v fs i a in
       let y = sound-some w fs j b in

@@ -31,8 +31,8 @@ abbrev pub indexOfEither : ℕ → ℕ → List ℕ → Bool
 indexOfEither v w r = indexOf v r || indexOf w r
 
 -- the newest of them; and with one item more, in front
-unfoldable pub newest : ℕ → ℕ → List Found → Option Found
-newest v w fs = best newer (keep (λ (x : Found). indexOfEither v w (x .raw)) fs)
+unfoldable pub newestIndex : ℕ → ℕ → List Found → Option Found
+newestIndex v w fs = best newer (keep (λ (x : Found). indexOfEither v w (x .raw)) fs)
 
 unfoldable pub newestWith : ℕ → ℕ → Found → Option Found → Option Found
 newestWith v w x o = cond (indexOfEither v w (x .raw)) (some (better newer x o)) o

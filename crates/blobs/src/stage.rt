@@ -64,6 +64,7 @@ fn drop_older(image: &mut [u8], places: &[u16], g: Rank, allowed: u64) -> Ran
     let Newest::At(second) = sound_index(image, places, w) else {
         return Ran::Done(allowed);
     };
+    // two stand, so one is the newest: the branch spares a proof of that
     let Newest::At(newest) = newest_of(image, places, v, w) else {
         return Ran::Done(allowed);
     };

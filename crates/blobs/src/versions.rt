@@ -1,5 +1,6 @@
 // A version: the index that counts, and whether its chunks are as the index says.
 use found::Rank;
+use layout::ENTRY_BYTES;
 ghost use mathlib.Core.Path.{_≡_};
 ghost use Rattle.entry.specs.States.{one};
 ghost use Rattle.lists.specs.Lists.{sumOf};
@@ -8,7 +9,7 @@ ghost use Rattle.found.specs.Places.{itemAt, itemsAt, Placed};
 ghost use Rattle.lists.specs.Each.{Each};
 ghost use Rattle.found.specs.Ranks.{rankNumber};
 ghost use Rattle.blobs.specs.Blobs.{sizeIn, sound};
-ghost use Rattle.blobs.specs.Search.{Gathered, newestOf, PlacedAt, indexOfEither, newest, newestWith, soundIndex};
+ghost use Rattle.blobs.specs.Search.{Gathered, newestOf, PlacedAt, indexOfEither, newestIndex, newestWith, soundIndex};
 
 // The place of the newest index so far.
 pub enum Newest {
@@ -57,7 +58,7 @@ fn newer_of(image: &[u8], place: usize, v: Rank, w: Rank, best: Newest) -> Newes
 // The newest index of two versions; of one, where they are the same.
 pub fn newest_of(image: &[u8], places: &[u16], v: Rank, w: Rank) -> Newest
     requires { ⌜ Each (Placed (now image)) (now places) ⌝ }
-    ensures { λ r. ⌜ (newestOf (now (image .entry)) r ≡ newest (rankNumber v) (rankNumber w) (itemsAt (now (image .entry)) (now (places .entry)))) × PlacedAt (now (image .entry)) r ⌝ }
+    ensures { λ r. ⌜ (newestOf (now (image .entry)) r ≡ newestIndex (rankNumber v) (rankNumber w) (itemsAt (now (image .entry)) (now (places .entry)))) × PlacedAt (now (image .entry)) r ⌝ }
 {
     let mut best = Newest::Nothing;
     let mut i = places.len();
@@ -83,7 +84,7 @@ fn chunk_sums(image: &[u8], places: &[u16], v: Rank) -> Sums
             continue;
         }
         count += 1;
-        size += entry::chunk_size(image, place * 32) as u64;
+        size += entry::chunk_size(image, place * ENTRY_BYTES) as u64;
     }
     Sums { count, size }
 }
@@ -94,8 +95,8 @@ pub fn is_sound(image: &[u8], places: &[u16], v: Rank, index: usize) -> bool
     ensures { λ r. ⌜ r ≡ sound (rankNumber v) (itemsAt (now (image .entry)) (now (places .entry))) (itemAt (now (image .entry)) index) ⌝ }
 {
     let sums = chunk_sums(image, places, v);
-    let count = entry::index_count(image, index * 32) as u64;
-    let size = entry::index_size(image, index * 32) as u64;
+    let count = entry::index_count(image, index * ENTRY_BYTES) as u64;
+    let size = entry::index_size(image, index * ENTRY_BYTES) as u64;
     if count == sums.count {
         size == sums.size
     } else {

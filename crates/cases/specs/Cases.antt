@@ -64,9 +64,9 @@ right (wins ps s) = isSector s (chosen ps)
 right (programmed a b r) = eqb (le (andWord (bytes4 a) 0 (b % 256) (b / 256 % 256) (b / 65536 % 256) (b / 16777216)) 0 4) r
 right (start b r) = eqb (startOf b) r
 
-abbrev pub every : List Case → Bool
-every [] = true
-every (c ∷ cs) = right c && every cs
+abbrev pub allRight : List Case → Bool
+allRight [] = true
+allRight (c ∷ cs) = right c && allRight cs
 
 abbrev pub table : List Case
 table =
@@ -84,6 +84,6 @@ table =
     ∷ []
 
 -- every row holds
-pub cases : T (every table)
+pub cases : T (allRight table)
 unfolding le crcBit crcBits crcByte crcFrom crcOf stateAt kindOf entryCrc rightHeader isItem and8 put andWord bytes4 keep better best greatest points chosen
 cases = tt

@@ -9,7 +9,10 @@ ghost use Rattle.word.specs.Number.{part};
 ghost use Rattle.crc.specs.Crc.{crcBits, crcFrom, crcOf, complement};
 ghost use Rattle.crc.specs.Table.{crcTable};
 
-const TABLE: [u32; 324] = [
+// Five parts of 64 numbers and one of four: a part for each six bits of a register.
+pub type CrcTable = [u32; 324];
+
+const TABLE: CrcTable = [
     0x00000000,
     0xB8BC6765,
     0xAA09C88B,
@@ -337,14 +340,14 @@ const TABLE: [u32; 324] = [
 ];
 
 // The table, for its caller to lend.
-pub fn table() -> [u32; 324]
+pub fn table() -> CrcTable
     ensures { λ t. ⌜ t ≡ crcTable ⌝ }
 {
     TABLE
 }
 
 // Thirty-two bits of a register: six by six, each through its own part of the table.
-fn four_bytes(t: &[u32; 324], x: u32) -> u32
+fn four_bytes(t: &CrcTable, x: u32) -> u32
     requires { ⌜ now t ≡ crcTable ⌝ }
     ensures { λ r. ⌜ r ≡ crcBits 32 x ⌝ }
 {
@@ -361,7 +364,7 @@ fn four_bytes(t: &[u32; 324], x: u32) -> u32
 }
 
 // Eight bits of a register, through the table's last two parts; the rest of it is only shifted.
-fn one_byte(t: &[u32; 324], x: u32) -> u32
+fn one_byte(t: &CrcTable, x: u32) -> u32
     requires { ⌜ now t ≡ crcTable ⌝ }
     ensures { λ r. ⌜ r ≡ crcBits 8 x ⌝ }
 {
@@ -370,7 +373,7 @@ fn one_byte(t: &[u32; 324], x: u32) -> u32
 }
 
 // The register after `n` words of `s` from `at` on, begun at `from`: a CRC is taken piece by piece.
-pub fn words(t: &[u32; 324], from: u32, s: &[u8], at: usize, n: usize) -> u32
+pub fn words(t: &CrcTable, from: u32, s: &[u8], at: usize, n: usize) -> u32
     requires { ⌜ (now t ≡ crcTable) × (at + 4 * n ≤ length (now s)) ⌝ }
     ensures { λ r. ⌜ r ≡ crcFrom from (part (now (s .entry)) at (4 * n)) ⌝ }
 {
@@ -384,7 +387,7 @@ pub fn words(t: &[u32; 324], from: u32, s: &[u8], at: usize, n: usize) -> u32
 }
 
 // The register after the bytes of `s`, begun at `from`: its words, and then the bytes that are left.
-pub fn run(t: &[u32; 324], from: u32, s: &[u8]) -> u32
+pub fn run(t: &CrcTable, from: u32, s: &[u8]) -> u32
     requires { ⌜ now t ≡ crcTable ⌝ }
     ensures { λ r. ⌜ r ≡ crcFrom from (now (s .entry)) ⌝ }
 {
@@ -406,7 +409,7 @@ pub fn finish(r: u32) -> u32
 }
 
 // The CRC of `s`.
-pub fn crc(t: &[u32; 324], s: &[u8]) -> u32
+pub fn crc(t: &CrcTable, s: &[u8]) -> u32
     requires { ⌜ now t ≡ crcTable ⌝ }
     ensures { λ c. ⌜ c ≡ crcOf (now (s .entry)) ⌝ }
 {

@@ -18,7 +18,7 @@ use Rattle.lists.proofs.Sums.{sum-le, sum-zero}
 use Rattle.lists.proofs.Maps.{sum-flatMap, sum-map, map-in}
 use Rattle.table.specs.declared.Page.{Page}
 use Rattle.table.specs.Table.{itemsIn, inSector}
-use Rattle.table.specs.Placed.{timesIn, Placed}
+use Rattle.table.specs.PagesPlaced.{timesIn, PagesPlaced}
 use Rattle.table.proofs.Places.{one-le}
 use Rattle.found.specs.Found.{Found, found, foundOn}
 use Rattle.found.specs.Places.{placeOf, itemAt, Lies}
@@ -75,11 +75,11 @@ found-once ps l h =
           omega arith;
     }
 
-placed-once : {n : ℕ} {ps : List Page} {frees : List ℕ} → Placed n ps frees → (u : ℕ) → sumOf (λ (p : Page). one (inSector u p)) ps ≤ 1
+placed-once : {n : ℕ} {ps : List Page} {frees : List ℕ} → PagesPlaced n ps frees → (u : ℕ) → sumOf (λ (p : Page). one (inSector u p)) ps ≤ 1
 unfolding timesIn
 placed-once {n} h u = let c = h .once u in let d = one-le (ltb u n) in omega arith
 
-pub found-apart : {n : ℕ} {ps : List Page} {frees : List ℕ} (l : List ℕ) → Placed n ps frees → Each (Lies l) ps → ((i : ℕ) → getD l i 0 < 256) → Apart (found ps l)
+pub found-apart : {n : ℕ} {ps : List Page} {frees : List ℕ} (l : List ℕ) → PagesPlaced n ps frees → Each (Lies l) ps → ((i : ℕ) → getD l i 0 < 256) → Apart (found ps l)
 found-apart {n} {ps} l h lies small = record { once = found-once ps l (placed-once h); keys = λ x m. key x (map-in (itemAt l) (map placeOf (found ps l)) x (rw (items-found l ps lies) m)) }
   where
     key : (x : Found) → ((p : ℕ) × (p ∈ map placeOf (found ps l)) × (x ≡ itemAt l p)) → keyNumber (keyOf (x .raw)) < 2 ^ 128

@@ -1,6 +1,7 @@
 // The stage: groups in ascending order, then the last mark.
 use super::run::take_run;
 use flash::Ran;
+use layout::SECTOR_BYTES;
 use sort::Order;
 use table::Table;
 ghost use mathlib.Core.Path.{_≡_};
@@ -11,7 +12,7 @@ ghost use Rattle.entry.specs.States.{empty, countState};
 ghost use Rattle.flash.specs.Step.{sector as sectorIn};
 ghost use Rattle.flash.specs.Did.{Did};
 ghost use Rattle.table.specs.Table.{sectorsOf, listed, freed, Sized};
-ghost use Rattle.table.specs.Placed.{Placed as PagesPlaced};
+ghost use Rattle.table.specs.PagesPlaced.{PagesPlaced};
 ghost use Rattle.found.specs.Found.{found};
 ghost use Rattle.found.specs.Places.{placeOf, itemsAt, Lies, Placed, Alike};
 ghost use Rattle.lists.specs.Each.{Each};
@@ -54,8 +55,8 @@ fn empty_in(image: &[u8], sector: usize) -> u8
     requires { ⌜ sector * 4096 + 4096 ≤ length (now image) ⌝ }
     ensures { λ r. ⌜ r ≡ countState (sectorIn sector (now (image .entry))) empty ⌝ }
 {
-    let a = sector * 4096;
-    let e = a + 4096;
+    let a = sector * SECTOR_BYTES;
+    let e = a + SECTOR_BYTES;
     let totals = entry::totals_of(&image[a..e]);
     totals.empty
 }

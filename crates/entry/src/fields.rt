@@ -1,4 +1,5 @@
 // What the 32 bytes of an entry say, where they stand at `at` of a sector or an image.
+use crc::CrcTable;
 ghost use mathlib.Core.Path.{_≡_};
 ghost use Prim.Native.Nat.{_+_, _<_, _≤_};
 ghost use lib.ListN.{length, getD};
@@ -14,7 +15,7 @@ pub struct Key {
 }
 
 // The CRC that the entry should have: bytes 4 to 7 hold it, so they are passed over.
-pub fn entry_crc(t: &[u32; 324], s: &[u8], at: usize) -> u32
+pub fn entry_crc(t: &CrcTable, s: &[u8], at: usize) -> u32
     requires { ⌜ (now t ≡ crcTable) × (at + 32 ≤ length (now s)) ⌝ }
     ensures { λ r. ⌜ r ≡ entryCrc (part (now (s .entry)) at 32) ⌝ }
 {

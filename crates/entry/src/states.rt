@@ -1,4 +1,5 @@
 // Entry states: two bits an entry, and how many entries have each state.
+use layout::STATES_AT;
 ghost use mathlib.Core.Path.{_≡_};
 ghost use Prim.Native.Nat.{_+_, _<_, _≤_};
 ghost use lib.ListN.{length};
@@ -10,7 +11,7 @@ pub fn entry_state(s: &[u8], i: usize) -> u8
     requires { ⌜ (64 ≤ length (now s)) × (i < 126) ⌝ }
     ensures { λ r. ⌜ r ≡ stateAt (now (s .entry)) i ⌝ }
 {
-    (s[32 + i / 4] >> (2 * (i % 4))) & 3
+    (s[STATES_AT + i / 4] >> (2 * (i % 4))) & 3
 }
 
 // How many pairs of `w`, at the places of `mask`, are 11 once the word is flipped.
@@ -43,7 +44,7 @@ pub fn totals_of(s: &[u8]) -> Totals
     requires { ⌜ 64 ≤ length (now s) ⌝ }
     ensures { λ r. ⌜ r ≡ totalsOf (now (s .entry)) ⌝ }
 {
-    let a = word::le64(s, 32);
+    let a = word::le64(s, STATES_AT);
     let b = word::le64(s, 40);
     let c = word::le64(s, 48);
     let d = word::le64(s, 56);

@@ -17,7 +17,7 @@ use Rattle.lists.proofs.Search.{last-in}
 use Rattle.lists.proofs.Sums.{greatest-ge, greatest-lt}
 use Rattle.table.specs.declared.Page.{Page}
 use Rattle.table.specs.Table.{sectorsOf, sequence, pageAt, itemsIn, activePage, inSector}
-use Rattle.table.specs.Placed.{Placed}
+use Rattle.table.specs.PagesPlaced.{PagesPlaced}
 use Rattle.table.proofs.Records.{sequence-below}
 use Rattle.table.proofs.Seeking.{first-member}
 use Rattle.table.proofs.Places.{free-other, free-fits, apart-placed, freed-placed, source-placed, moved-placed, full-placed, greatest-out}
@@ -25,12 +25,12 @@ use Rattle.finish.specs.Finish.{Round, copyOf, newest, newestHolds, next
 
 -- its lists stand in an image of n sectors, and no sequence is above b
 pub record Stands (n b : ℕ) (w : Round) : Type 0 where
-  pub placed : Placed n (w .list) (w .free)
+  pub placed : PagesPlaced n (w .list) (w .free)
   pub below : greatest sequence (w .list) ≤ b
 
 module _ (k : List ℕ) (b : ℕ) (small : b < 0x100000000) (x : Page) where
   -- k is the image that the round began with
-  afresh-stands : (ps : List Page) (fs l : List ℕ) → length l ≡ length k → Placed (sectorsOf k) (x ∷ ps) fs → nextSequence x ps ≤ b
+  afresh-stands : (ps : List Page) (fs l : List ℕ) → length l ≡ length k → PagesPlaced (sectorsOf k) (x ∷ ps) fs → nextSequence x ps ≤ b
       → Stands (sectorsOf k) b (afresh x ps fs l (getLast? fs))
   unfolding afresh
   afresh-stands ps fs l e h q = go (getLast? fs) refl
@@ -58,7 +58,7 @@ module _ (k : List ℕ) (b : ℕ) (small : b < 0x100000000) (x : Page) where
       go none r = record { placed = full-placed x h; below = unfold greatest in omega arith }
       go (some t) r = record { placed = moved-placed x (made t) h r; below = most (made t) (moved t (last-in fs t r)) }
 
-  with-stands : (ps : List Page) (fs : List ℕ) → Placed (sectorsOf k) (x ∷ ps) fs → nextSequence x ps ≤ b → (o : Option Page) → firstOf activePage ps ≡ o
+  with-stands : (ps : List Page) (fs : List ℕ) → PagesPlaced (sectorsOf k) (x ∷ ps) fs → nextSequence x ps ≤ b → (o : Option Page) → firstOf activePage ps ≡ o
       → Stands (sectorsOf k) b (roundWith x ps fs k o)
   unfolding roundWith after
   with-stands ps fs h q none r = go (newestHolds x k (newest ps))
@@ -86,7 +86,7 @@ module _ (k : List ℕ) (b : ℕ) (small : b < 0x100000000) (x : Page) where
       go true = record { placed = first .placed; below = first .below }
       go false = afresh-stands ps fs k refl h q
 
-pub round-stands : (x : Page) {ps : List Page} {fs : List ℕ} (l : List ℕ) → Placed (sectorsOf l) ps fs → x ∈ ps → greatest sequence ps < 0xFFFFFFFF
+pub round-stands : (x : Page) {ps : List Page} {fs : List ℕ} (l : List ℕ) → PagesPlaced (sectorsOf l) ps fs → x ∈ ps → greatest sequence ps < 0xFFFFFFFF
     → Stands (sectorsOf l) (suc (greatest sequence ps)) (round x ps fs l)
 unfolding round
 round-stands x {ps} {fs} l h m g =

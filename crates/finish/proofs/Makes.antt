@@ -22,11 +22,11 @@ use Rattle.finish.specs.Rounds.{Makes}
 
 pub makes-then : {ss : List Step} {n k : ℕ} {l m m′ : List ℕ} {q : Ran} {w : Round} {r : Rounded} → Did ss n l m q → q ≡ Done k → Makes w k m m′ r → Makes (after ss w) n l m′ r
 unfolding after
-makes-then d e w = record { did = did-then (rw e at d) (w .did); lists = w .lists }
+makes-then d e w = record { did = did-then (rw e at d) (w .did); table = w .table }
 
 pub makes-stop : {ss : List Step} {n : ℕ} {l m : List ℕ} {q : Ran} (w : Round) (t : Table) → Did ss n l m q → q ≡ Stopped → Makes (after ss w) n l m (record { ran = Stopped; table = t })
 unfolding after
-makes-stop w t d e = record { did = did-stop (w .steps) (rw e at d); lists = λ k q. absurd (let z : _≡_ {A = ℕ} 0 1 = cc in omega arith) }
+makes-stop w t d e = record { did = did-stop (w .steps) (rw e at d); table = λ k q. absurd (let z : _≡_ {A = ℕ} 0 1 = cc in omega arith) }
 
 -- the lists and the image that a copy afresh begins with, by other names
 pub makes-same : (x : Page) {ps qs : List Page} {fs gs l i a b : List ℕ} {n : ℕ} {r : Rounded} → ps ≡ qs → fs ≡ gs → l ≡ i

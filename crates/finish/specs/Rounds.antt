@@ -11,4 +11,4 @@ use Rattle.finish.specs.Finish.{Round}
 -- the steps of the round w, of which n are allowed, were made on the image l, which left m; where these were all, the table holds the lists that it leaves
 pub record Makes (w : Round) (n : ℕ) (l m : List ℕ) (r : Rounded) : Type 0 where
   pub did : Did (w .steps) n l m (r .ran)
-  pub lists : (k : ℕ) → r .ran ≡ Done k → Holds (r .table) (w .list) (w .free)
+  pub table : (k : ℕ) → r .ran ≡ Done k → Holds (r .table) (w .list) (w .free)

@@ -1,4 +1,9 @@
 // What stage 2 asks of two pages: whether the items of one are all on the other. It only reads.
+use crc::CrcTable;
+use layout::ENTRIES_AT;
+use layout::ENTRY_BYTES;
+use layout::PAGE_ENTRIES;
+use layout::SECTOR_BYTES;
 use page::Reading;
 ghost use mathlib.Core.Path.{_≡_};
 ghost use Prim.Native.Nat.{_+_, _*_, _≤_};
@@ -53,18 +58,18 @@ fn are_alike(by: Alike, a: &[u8], b: &[u8]) -> bool
 }
 
 // Whether an item of the sector `s` is like the header `h`.
-fn some_like(t: &[u32; 324], by: Alike, h: &[u8], s: &[u8]) -> bool
+fn some_like(t: &CrcTable, by: Alike, h: &[u8], s: &[u8]) -> bool
     requires { ⌜ (now t ≡ crcTable) × (length (now h) ≡ 32) × (length (now s) ≡ 4096) ⌝ }
     ensures { λ r. ⌜ r ≡ someLike by (now (h .entry)) (walk (now (s .entry)) 126 0) ⌝ }
 {
     let mut i: usize = 0;
-    while i < 126 {
+    while i < PAGE_ENTRIES {
         let Reading::Item(item) = page::read_entry(t, s, i) else {
             i += 1;
             continue;
         };
-        let a = 64 + i * 32;
-        let e = a + 32;
+        let a = ENTRIES_AT + i * ENTRY_BYTES;
+        let e = a + ENTRY_BYTES;
         if are_alike(by, h, &s[a..e]) {
             return true;
         }
@@ -74,18 +79,18 @@ fn some_like(t: &[u32; 324], by: Alike, h: &[u8], s: &[u8]) -> bool
 }
 
 // Whether each item of the sector `x` is like some item of the sector `y`.
-fn all_like(t: &[u32; 324], by: Alike, x: &[u8], y: &[u8]) -> bool
+fn all_like(t: &CrcTable, by: Alike, x: &[u8], y: &[u8]) -> bool
     requires { ⌜ (now t ≡ crcTable) × (length (now x) ≡ 4096) × (length (now y) ≡ 4096) ⌝ }
     ensures { λ r. ⌜ r ≡ allLike by (walk (now (x .entry)) 126 0) (walk (now (y .entry)) 126 0) ⌝ }
 {
     let mut i: usize = 0;
-    while i < 126 {
+    while i < PAGE_ENTRIES {
         let Reading::Item(item) = page::read_entry(t, x, i) else {
             i += 1;
             continue;
         };
-        let a = 64 + i * 32;
-        let e = a + 32;
+        let a = ENTRIES_AT + i * ENTRY_BYTES;
+        let e = a + ENTRY_BYTES;
         if !some_like(t, by, &x[a..e], y) {
             return false;
         }
@@ -95,13 +100,13 @@ fn all_like(t: &[u32; 324], by: Alike, x: &[u8], y: &[u8]) -> bool
 }
 
 // Whether each item in sector `x` of the image is like some item in sector `y`.
-pub fn matches(t: &[u32; 324], by: Alike, image: &[u8], x: usize, y: usize) -> bool
+pub fn matches(t: &CrcTable, by: Alike, image: &[u8], x: usize, y: usize) -> bool
     requires { ⌜ (now t ≡ crcTable) × (x * 4096 + 4096 ≤ length (now image)) × (y * 4096 + 4096 ≤ length (now image)) ⌝ }
     ensures { λ r. ⌜ r ≡ allLike by (itemsIn x (now (image .entry))) (itemsIn y (now (image .entry))) ⌝ }
 {
-    let a = x * 4096;
-    let b = a + 4096;
-    let c = y * 4096;
-    let d = c + 4096;
+    let a = x * SECTOR_BYTES;
+    let b = a + SECTOR_BYTES;
+    let c = y * SECTOR_BYTES;
+    let d = c + SECTOR_BYTES;
     all_like(t, by, &image[a..b], &image[c..d])
 }

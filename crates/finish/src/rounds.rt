@@ -2,7 +2,9 @@
 use crate::judge::Alike;
 use crate::judge::matches;
 use crate::newest::newest_holds;
+use crc::CrcTable;
 use flash::Ran;
+use layout::SECTOR_BYTES;
 use page::PageState;
 use table::Page;
 use table::Sought;
@@ -16,7 +18,7 @@ ghost use Rattle.crc.specs.Table.{crcTable};
 ghost use Rattle.flash.specs.Step.{erase, run};
 ghost use Rattle.lists.specs.Lists.{firstOf, greatest, takeOut};
 ghost use Rattle.table.specs.Table.{sectorsOf, sequence, activePage, freeingPage, inSector, listed, freed, Sized};
-ghost use Rattle.table.specs.Placed.{Placed};
+ghost use Rattle.table.specs.PagesPlaced.{PagesPlaced};
 ghost use Rattle.finish.specs.Finish.{nextSequence, afresh, after, roundWith, round};
 ghost use Rattle.finish.specs.Rounds.{Makes};
 
@@ -27,20 +29,20 @@ pub struct Rounded {
 }
 
 // The source `x`, which is out of the lists, goes to the last free sector; with none it goes to the front and counts as Full.
-fn copy_afresh(t: &[u32; 324], image: &mut [u8], x: Page, lists: Table, allowance: u64) -> Rounded
-    requires { ⌜ (now t ≡ crcTable) × Sized lists × Placed (sectorsOf (now image)) (x ∷ listed lists) (freed lists) × (nextSequence x (listed lists) < 0x1_0000_0000) ⌝ }
-    ensures { λ r. ⌜ Makes (afresh x (listed lists) (freed lists) (now (image .entry)) (getLast? (freed lists))) allowance (now (image .entry)) (now (image .exit)) r ⌝ }
+fn copy_afresh(t: &CrcTable, image: &mut [u8], x: Page, table: Table, allowance: u64) -> Rounded
+    requires { ⌜ (now t ≡ crcTable) × Sized table × PagesPlaced (sectorsOf (now image)) (x ∷ listed table) (freed table) × (nextSequence x (listed table) < 0x1_0000_0000) ⌝ }
+    ensures { λ r. ⌜ Makes (afresh x (listed table) (freed table) (now (image .entry)) (getLast? (freed table))) allowance (now (image .entry)) (now (image .exit)) r ⌝ }
 {
-    let n = lists.free_count;
+    let n = table.free_count;
     if n == 0 {
         return Rounded {
             ran: Ran::Done(allowance),
-            table: table::prepend_page(lists, table::as_full(x)),
+            table: table::prepend_page(table, table::as_full(x)),
         };
     }
-    let target = lists.free[n - 1];
+    let target = table.free[n - 1];
     let source = x.seen;
-    let top = table::larger(table::greatest_sequence(lists), source.sequence);
+    let top = table::larger(table::greatest_sequence(table), source.sequence);
     let ran = relocate::move_page(
         t,
         image,
@@ -49,14 +51,14 @@ fn copy_afresh(t: &[u32; 324], image: &mut [u8], x: Page, lists: Table, allowanc
         top + 1,
         allowance,
     );
-    let a = target as usize * 4096;
-    let e = a + 4096;
+    let a = target as usize * SECTOR_BYTES;
+    let e = a + SECTOR_BYTES;
     let seen = page::page_record(t, &image[a..e]);
     let moved = Page {
         sector: target,
         seen,
     };
-    let taken = table::append_page(table::drop_free(lists), moved);
+    let taken = table::append_page(table::drop_free(table), moved);
     Rounded {
         ran,
         table: table::join_free(taken, x.sector),
@@ -65,17 +67,17 @@ fn copy_afresh(t: &[u32; 324], image: &mut [u8], x: Page, lists: Table, allowanc
 
 // The Active page `y` is a partial copy of `x`: it is erased, never resumed, and `x` is copied afresh.
 fn erase_copy(
-    t: &[u32; 324],
+    t: &CrcTable,
     image: &mut [u8],
     x: Page,
     y: Page,
-    lists: Table,
+    table: Table,
     allowance: u64,
 ) -> Rounded
-    requires { ⌜ (now t ≡ crcTable) × Sized lists × Placed (sectorsOf (now image)) (x ∷ listed lists) (freed lists) × (firstOf activePage (listed lists) ≡ some y) × (nextSequence x (listed lists) < 0x1_0000_0000) ⌝ }
-    ensures { λ r. ⌜ Makes (after (erase (y .sector) ∷ []) (afresh x (takeOut (inSector (y .sector)) (listed lists)) (freed lists ++ (y .sector ∷ [])) (run (erase (y .sector) ∷ []) (now (image .entry))) (getLast? (freed lists ++ (y .sector ∷ []))))) allowance (now (image .entry)) (now (image .exit)) r ⌝ }
+    requires { ⌜ (now t ≡ crcTable) × Sized table × PagesPlaced (sectorsOf (now image)) (x ∷ listed table) (freed table) × (firstOf activePage (listed table) ≡ some y) × (nextSequence x (listed table) < 0x1_0000_0000) ⌝ }
+    ensures { λ r. ⌜ Makes (after (erase (y .sector) ∷ []) (afresh x (takeOut (inSector (y .sector)) (listed table)) (freed table ++ (y .sector ∷ [])) (run (erase (y .sector) ∷ []) (now (image .entry))) (getLast? (freed table ++ (y .sector ∷ []))))) allowance (now (image .entry)) (now (image .exit)) r ⌝ }
 {
-    let out = table::take_out(lists, y.sector);
+    let out = table::take_out(table, y.sector);
     let joined = table::join_free(out, y.sector);
     let ran = flash::erase_sector(image, y.sector as usize, allowance);
     let Ran::Done(left) = ran else {
@@ -89,52 +91,46 @@ fn erase_copy(
 
 // The round where `y` is the first Active page.
 fn beside_active(
-    t: &[u32; 324],
+    t: &CrcTable,
     image: &mut [u8],
     x: Page,
     y: Page,
-    lists: Table,
+    table: Table,
     allowance: u64,
 ) -> Rounded
-    requires { ⌜ (now t ≡ crcTable) × Sized lists × Placed (sectorsOf (now image)) (x ∷ listed lists) (freed lists) × (firstOf activePage (listed lists) ≡ some y) × (nextSequence x (listed lists) < 0x1_0000_0000) ⌝ }
-    ensures { λ r. ⌜ Makes (roundWith x (listed lists) (freed lists) (now (image .entry)) (some y)) allowance (now (image .entry)) (now (image .exit)) r ⌝ }
+    requires { ⌜ (now t ≡ crcTable) × Sized table × PagesPlaced (sectorsOf (now image)) (x ∷ listed table) (freed table) × (firstOf activePage (listed table) ≡ some y) × (nextSequence x (listed table) < 0x1_0000_0000) ⌝ }
+    ensures { λ r. ⌜ Makes (roundWith x (listed table) (freed table) (now (image .entry)) (some y)) allowance (now (image .entry)) (now (image .exit)) r ⌝ }
 {
     let copy = y.sector as usize;
     let source = x.sector as usize;
     if matches(t, Alike::Header, image, copy, source) {
-        return erase_copy(t, image, x, y, lists, allowance);
+        return erase_copy(t, image, x, y, table, allowance);
     }
-    copy_afresh(t, image, x, lists, allowance)
+    copy_afresh(t, image, x, table, allowance)
 }
 
 // The round where no page is Active.
-fn without_active(
-    t: &[u32; 324],
-    image: &mut [u8],
-    x: Page,
-    lists: Table,
-    allowance: u64,
-) -> Rounded
-    requires { ⌜ (now t ≡ crcTable) × Sized lists × Placed (sectorsOf (now image)) (x ∷ listed lists) (freed lists) × (nextSequence x (listed lists) < 0x1_0000_0000) ⌝ }
-    ensures { λ r. ⌜ Makes (roundWith x (listed lists) (freed lists) (now (image .entry)) none) allowance (now (image .entry)) (now (image .exit)) r ⌝ }
+fn without_active(t: &CrcTable, image: &mut [u8], x: Page, table: Table, allowance: u64) -> Rounded
+    requires { ⌜ (now t ≡ crcTable) × Sized table × PagesPlaced (sectorsOf (now image)) (x ∷ listed table) (freed table) × (nextSequence x (listed table) < 0x1_0000_0000) ⌝ }
+    ensures { λ r. ⌜ Makes (roundWith x (listed table) (freed table) (now (image .entry)) none) allowance (now (image .entry)) (now (image .exit)) r ⌝ }
 {
-    if newest_holds(t, image, x, lists) {
+    if newest_holds(t, image, x, table) {
         let ran = flash::erase_sector(image, x.sector as usize, allowance);
         return Rounded {
             ran,
-            table: table::join_free(lists, x.sector),
+            table: table::join_free(table, x.sector),
         };
     }
-    copy_afresh(t, image, x, lists, allowance)
+    copy_afresh(t, image, x, table, allowance)
 }
 
 // The round of the source `x`, the first Freeing page.
-pub fn round(t: &[u32; 324], image: &mut [u8], x: Page, lists: Table, allowance: u64) -> Rounded
-    requires { ⌜ (now t ≡ crcTable) × Sized lists × Placed (sectorsOf (now image)) (listed lists) (freed lists) × (firstOf freeingPage (listed lists) ≡ some x) × (greatest sequence (listed lists) < 0xFFFF_FFFF) ⌝ }
-    ensures { λ r. ⌜ Makes (round x (listed lists) (freed lists) (now (image .entry))) allowance (now (image .entry)) (now (image .exit)) r ⌝ }
+pub fn round(t: &CrcTable, image: &mut [u8], x: Page, table: Table, allowance: u64) -> Rounded
+    requires { ⌜ (now t ≡ crcTable) × Sized table × PagesPlaced (sectorsOf (now image)) (listed table) (freed table) × (firstOf freeingPage (listed table) ≡ some x) × (greatest sequence (listed table) < 0xFFFF_FFFF) ⌝ }
+    ensures { λ r. ⌜ Makes (round x (listed table) (freed table) (now (image .entry))) allowance (now (image .entry)) (now (image .exit)) r ⌝ }
 {
-    let rest = table::take_out(lists, x.sector);
-    let Sought::Found(y) = table::first_in(rest, PageState::Active) else {
+    let rest = table::take_out(table, x.sector);
+    let Sought::One(y) = table::first_in(rest, PageState::Active) else {
         return without_active(t, image, x, rest, allowance);
     };
     beside_active(t, image, x, y, rest, allowance)

@@ -19,7 +19,7 @@ use Rattle.lists.specs.Lists.{sumOf, firstOf, greatest}
 use Rattle.table.specs.declared.Page.{Page}
 use Rattle.table.specs.declared.Table.{Table}
 use Rattle.table.specs.Table.{sectorsOf, sequence, freeingPage, listed, freed, Sized}
-use Rattle.table.specs.Placed.{Placed}
+use Rattle.table.specs.PagesPlaced.{PagesPlaced}
 use Rattle.table.proofs.Seeking.{first-member}
 use Rattle.finish.specs.declared.rounds.Rounded.{Rounded}
 use Rattle.finish.specs.Finish.{round}
@@ -54,7 +54,7 @@ module _ (ps : List Page) (fs l : List ℕ) (n : ℕ) where
 -- n rounds are left, on the lists of the table t and the image l with k steps allowed
 pub record Left (T : List Staged) (N : ℕ) (L : List ℕ) (n : ℕ) (t : Table) (k : ℕ) (l : List ℕ) : Type 0 where
   pub sized : Sized t
-  pub placed : Placed (sectorsOf l) (listed t) (freed t)
+  pub placed : PagesPlaced (sectorsOf l) (listed t) (freed t)
   pub below : greatest sequence (listed t) + n ≤ 0xFFFFFFFE
   pub making : Making T N L (finishing n (listed t) (freed t) l) k l
 
@@ -63,7 +63,7 @@ pub left-more : {T : List Staged} {N n k j : ℕ} {L l m : List ℕ} {t : Table}
     → Makes (round x (listed t) (freed t) l) k l m r → r .ran ≡ Done j → Left T N L (n - 1) (r .table) j m
 left-more {n} {j} {l} {m} {t} x g h e w q =
     let s = round-stands x l (g .placed) (first-member freeingPage (listed t) x e) (omega (arith, g .below)) in
-    let o = w .lists j q in
+    let o = w .table j q in
     let len : length m ≡ length l = ap length (did-all (rw q at (w .did))) ∙ length-run _ _ in
     let v = round x (listed t) (freed t) l in
     record {

@@ -1,4 +1,5 @@
 // The flash model: a word is programmed, a sector is erased, and each is a step that an allowance pays for.
+use layout::SECTOR_BYTES;
 ghost use mathlib.Core.Path.{_≡_};
 ghost use mathlib.Core.List.{[], _∷_};
 ghost use Prim.Native.Nat.{_+_, _-_, _*_, _≤_};
@@ -46,8 +47,8 @@ pub fn erase_sector(image: &mut [u8], s: usize, left: u64) -> Ran
     if left == 0 {
         return Ran::Stopped;
     }
-    let a = s * 4096;
-    let e = a + 4096;
+    let a = s * SECTOR_BYTES;
+    let e = a + SECTOR_BYTES;
     fill(&mut image[a..e]);
     Ran::Done(left - 1)
 }

@@ -1,6 +1,10 @@
 // What stands at a place.
 use super::ranks::Rank;
 use flash::Ran;
+use layout::ENTRY_BYTES;
+use layout::FIRST_PLACE;
+use layout::SECTOR_BYTES;
+use layout::SECTOR_PLACES;
 ghost use mathlib.Core.Path.{_≡_};
 ghost use mathlib.Core.Bool.{_||_};
 ghost use Prim.Native.Nat.{_+_, _%_, _≤_, _<_};
@@ -17,14 +21,14 @@ pub fn is_chunk(image: &[u8], place: usize) -> bool
     requires { ⌜ Placed (now image) place ⌝ }
     ensures { λ r. ⌜ r ≡ isChunk (itemAt (now (image .entry)) place .raw) ⌝ }
 {
-    image[place * 32 + 1] == 0x42
+    image[place * ENTRY_BYTES + 1] == 0x42
 }
 
 pub fn is_index(image: &[u8], place: usize) -> bool
     requires { ⌜ Placed (now image) place ⌝ }
     ensures { λ r. ⌜ r ≡ isIndex (itemAt (now (image .entry)) place .raw) ⌝ }
 {
-    image[place * 32 + 1] == 0x48
+    image[place * ENTRY_BYTES + 1] == 0x48
 }
 
 // A chunk or a blob index.
@@ -42,14 +46,14 @@ pub fn namespace_at(image: &[u8], place: usize) -> u8
     requires { ⌜ Placed (now image) place ⌝ }
     ensures { λ r. ⌜ r ≡ namespaceOf (itemAt (now (image .entry)) place .raw) ⌝ }
 {
-    image[place * 32]
+    image[place * ENTRY_BYTES]
 }
 
 pub fn span_at(image: &[u8], place: usize) -> usize
     requires { ⌜ Placed (now image) place ⌝ }
     ensures { λ r. ⌜ (r ≡ spanOf (itemAt (now (image .entry)) place .raw)) × (1 ≤ r) × (place % 128 + r ≤ 128) ⌝ }
 {
-    word::size(image[place * 32 + 2])
+    word::size(image[place * ENTRY_BYTES + 2])
 }
 
 pub fn start_at(image: &[u8], place: usize) -> u8
@@ -57,9 +61,9 @@ pub fn start_at(image: &[u8], place: usize) -> u8
     ensures { λ r. ⌜ r ≡ startIn (itemAt (now (image .entry)) place .raw) ⌝ }
 {
     if is_chunk(image, place) {
-        return entry::start(image[place * 32 + 3]);
+        return entry::start(image[place * ENTRY_BYTES + 3]);
     }
-    entry::start(image[place * 32 + 29])
+    entry::start(image[place * ENTRY_BYTES + 29])
 }
 
 // The version that a chunk or a blob index is of.
@@ -69,7 +73,7 @@ pub fn version_at(image: &[u8], place: usize) -> Rank
 {
     Rank {
         high: word::wide(namespace_at(image, place)) * 256 + word::wide(start_at(image, place)),
-        key: entry::key_at(image, place * 32),
+        key: entry::key_at(image, place * ENTRY_BYTES),
     }
 }
 
@@ -79,7 +83,7 @@ pub fn group_at(image: &[u8], place: usize) -> Rank
 {
     Rank {
         high: word::wide(namespace_at(image, place)),
-        key: entry::key_at(image, place * 32),
+        key: entry::key_at(image, place * ENTRY_BYTES),
     }
 }
 
@@ -87,7 +91,7 @@ fn sequence_at(image: &[u8], place: usize) -> u32
     requires { ⌜ Placed (now image) place ⌝ }
     ensures { λ r. ⌜ r ≡ itemAt (now (image .entry)) place .sequence ⌝ }
 {
-    word::le32(image, place / 128 * 4096 + 4)
+    word::le32(image, place / SECTOR_PLACES * SECTOR_BYTES + 4)
 }
 
 // Whether the item at `later`, which stands later in the list, is newer than the one at `place`.
@@ -98,7 +102,7 @@ pub fn is_newer(image: &[u8], later: usize, place: usize) -> bool
     let after = sequence_at(image, later);
     let before = sequence_at(image, place);
     if after == before {
-        place % 128 <= later % 128
+        place % SECTOR_PLACES <= later % SECTOR_PLACES
     } else {
         before < after
     }
@@ -109,5 +113,11 @@ pub fn erase_at(image: &mut [u8], place: usize, n: usize, allowed: u64) -> Ran
     requires { ⌜ Placed (now image) place × (1 ≤ n) × (place % 128 + n ≤ 128) ⌝ }
     ensures { λ r. ⌜ Did (erasing (itemAt (now (image .entry)) place .sector) (itemAt (now (image .entry)) place .entry) n) allowed (now (image .entry)) (now (image .exit)) r × Alike (now (image .entry)) (now (image .exit)) ⌝ }
 {
-    item::erase_item(image, place / 128, place % 128 - 2, n, allowed)
+    item::erase_item(
+        image,
+        place / SECTOR_PLACES,
+        place % SECTOR_PLACES - FIRST_PLACE,
+        n,
+        allowed,
+    )
 }

@@ -1,4 +1,8 @@
 // Places gathered once, so that a stage walks the image once.
+use crc::CrcTable;
+use layout::FIRST_PLACE;
+use layout::SECTOR_BYTES;
+use layout::SECTOR_PLACES;
 use table::Table;
 ghost use mathlib.Core.Path.{_≡_};
 ghost use mathlib.Core.List.{map};
@@ -11,7 +15,7 @@ ghost use Rattle.found.specs.Places.{placeOf, Lies};
 ghost use Rattle.lists.specs.Each.{Each};
 
 // The places of all items found, in list order, then entry order, into `out`. Answers how many.
-pub fn gather(t: &[u32; 324], image: &[u8], table: Table, out: &mut [u16]) -> usize
+pub fn gather(t: &CrcTable, image: &[u8], table: Table, out: &mut [u16]) -> usize
     requires { ⌜ (now t ≡ crcTable) × Sized table × Each (Lies (now image)) (listed table) × (2016 ≤ length (now out)) ⌝ }
     ensures { λ r. ⌜ (take r (now (out .exit)) ≡ map placeOf (found (listed table) (now (image .entry)))) × (r ≤ 2016) ⌝ }
 {
@@ -21,9 +25,15 @@ pub fn gather(t: &[u32; 324], image: &[u8], table: Table, out: &mut [u16]) -> us
     while i < count {
         let p = table.pages[i];
         let sector = p.sector as usize;
-        let a = sector * 4096;
-        let e = a + 4096;
-        k = page::places(t, &image[a..e], sector * 128 + 2, out, k);
+        let a = sector * SECTOR_BYTES;
+        let e = a + SECTOR_BYTES;
+        k = page::places(
+            t,
+            &image[a..e],
+            sector * SECTOR_PLACES + FIRST_PLACE,
+            out,
+            k,
+        );
         i += 1;
     }
     k

@@ -1,6 +1,10 @@
 // Copy an item into the next entries of another sector. Its states are marked once all its bytes stand: payload is never read as a header.
 use super::span::mark_written;
 use flash::Ran;
+use layout::ENTRIES_AT;
+use layout::ENTRY_BYTES;
+use layout::PAGE_ENTRIES;
+use layout::SECTOR_BYTES;
 ghost use mathlib.Core.Path.{_≡_};
 ghost use mathlib.Core.Logic.{_⊎_};
 ghost use Prim.Native.Nat.{_+_, _*_, _≤_, _<_};
@@ -41,7 +45,7 @@ fn mark_if_used(image: &mut [u8], base: usize, next: usize, left: u64) -> Ran
     requires { ⌜ base + 4096 ≤ length (now image) ⌝ }
     ensures { λ r. ⌜ Did (fullMark base next) left (now (image .entry)) (now (image .exit)) r ⌝ }
 {
-    if next == 126 {
+    if next == PAGE_ENTRIES {
         return flash::program_word(image, base, 0xFC, 0xFF, 0xFF, 0xFF, left);
     }
     Ran::Done(left)
@@ -60,9 +64,9 @@ pub fn copy_item(
     requires { ⌜ (source + 4096 ≤ length (now image)) × (target + 4096 ≤ length (now image)) × ((source + 4096 ≤ target) ⊎ (target + 4096 ≤ source)) × (i + n ≤ 126) × (j + n ≤ 126) × (0 < n) × (spanOf (part (now image) (source + 64 + i * 32) (n * 32)) ≡ n) ⌝ }
     ensures { λ r. ⌜ Did (copying target j (part (now (image .entry)) (source + 64 + i * 32) (n * 32))) allowed (now (image .entry)) (now (image .exit)) r ⌝ }
 {
-    let from = source + 64 + i * 32;
-    let to = target + 64 + j * 32;
-    let r1 = copy_words(image, from, to, target + 4096, n * 8, allowed);
+    let from = source + ENTRIES_AT + i * ENTRY_BYTES;
+    let to = target + ENTRIES_AT + j * ENTRY_BYTES;
+    let r1 = copy_words(image, from, to, target + SECTOR_BYTES, n * 8, allowed);
     let Ran::Done(left1) = r1 else {
         return Ran::Stopped;
     };

@@ -1,6 +1,7 @@
 // Erase an item.
 use super::span::mark_erased;
 use flash::Ran;
+use layout::SECTOR_BYTES;
 ghost use Prim.Native.Nat.{_+_, _*_, _≤_, _<_};
 ghost use lib.ListN.{length};
 ghost use Rattle.flash.specs.Did.{Did};
@@ -11,5 +12,5 @@ pub fn erase_item(image: &mut [u8], s: usize, i: usize, n: usize, allowed: u64) 
     requires { ⌜ (s * 4096 + 4096 ≤ length (now image)) × (i + n ≤ 126) × (0 < n) ⌝ }
     ensures { λ r. ⌜ Did (erasing s i n) allowed (now (image .entry)) (now (image .exit)) r ⌝ }
 {
-    mark_erased(image, s * 4096, i, n, allowed)
+    mark_erased(image, s * SECTOR_BYTES, i, n, allowed)
 }

@@ -1,12 +1,16 @@
 // The entry states of a span, in the sector at `base`: `n` entries from entry `j` on. The header's state decides whether the item is there, so
 // it is the first to be set Written and the last to be set Erased.
 use flash::Ran;
+use layout::STATES_AT;
 ghost use mathlib.Core.Path.{_≡_};
 ghost use mathlib.Core.List.{[], _∷_};
 ghost use Prim.Native.Nat.{_+_, _≤_, _<_};
 ghost use lib.ListN.{length};
 ghost use Rattle.flash.specs.Did.{Did};
 ghost use Rattle.item.specs.States.{pairOf, maskOf, stateWord, marking, unmarking};
+
+// The entries whose states a word holds.
+const WORD_ENTRIES: usize = 16;
 
 // What is taken off the pair of entry `e`: `d` where it is one of the span's.
 fn pair(j: usize, n: usize, d: u8, e: usize) -> u8
@@ -45,7 +49,7 @@ fn state_word(image: &mut [u8], base: usize, j: usize, n: usize, d: u8, w: usize
     let m1 = mask(j, n, d, b + 1);
     let m2 = mask(j, n, d, b + 2);
     let m3 = mask(j, n, d, b + 3);
-    flash::program_word(image, base + 32 + b, m0, m1, m2, m3, left)
+    flash::program_word(image, base + STATES_AT + b, m0, m1, m2, m3, left)
 }
 
 // Sets the span Written.
@@ -54,8 +58,8 @@ pub fn mark_written(image: &mut [u8], base: usize, j: usize, n: usize, allowed: 
     ensures { λ r. ⌜ Did (marking base j n) allowed (now (image .entry)) (now (image .exit)) r ⌝ }
 {
     let mut left = allowed;
-    let mut w = j / 16;
-    let end = (j + (n - 1)) / 16 + 1;
+    let mut w = j / WORD_ENTRIES;
+    let end = (j + (n - 1)) / WORD_ENTRIES + 1;
     while w < end {
         let r = state_word(image, base, j, n, 1, w, left);
         let Ran::Done(rest) = r else {
@@ -76,13 +80,13 @@ pub fn mark_erased(image: &mut [u8], base: usize, j: usize, n: usize, allowed: u
     // where those begin that are set already
     let mut end = j + n;
     while j < end {
-        let w = (end - 1) / 16;
+        let w = (end - 1) / WORD_ENTRIES;
         let r = state_word(image, base, j, n, 3, w, left);
         let Ran::Done(rest) = r else {
             return Ran::Stopped;
         };
         left = rest;
-        end = w * 16;
+        end = w * WORD_ENTRIES;
     }
     Ran::Done(left)
 }

@@ -2,6 +2,7 @@
 mod text;
 
 use answer::Answer;
+use layout::MOST_SECTORS;
 use page::PageRecord;
 use page::PageState;
 use text::put_byte;
@@ -13,6 +14,9 @@ ghost use lib.ListN.{length};
 ghost use Rattle.io.specs.Counts.{Counts};
 ghost use Rattle.listing.specs.Text.{Put};
 ghost use Rattle.listing.specs.Listing.{stateName, counts, pageText, line, head, Listed};
+
+// A sector's bytes, in the width of a file's length.
+const SECTOR_LENGTH: u64 = 4096;
 
 fn put_state(out: &mut [u8], at: usize, state: PageState) -> usize
     requires { ⌜ at ≤ length (now out) ⌝ }
@@ -79,11 +83,11 @@ pub fn list_image(image: &mut [u8], bytes: u64, out: &mut [u8]) -> usize
     ensures { λ r. ⌜ Counts r (now (out .exit)) ⌝ }
     ensures { λ r. ⌜ Listed (now (image .entry)) bytes (now (image .exit)) (now (out .entry)) (now (out .exit)) r ⌝ }
 {
-    let made = recover::recover_image(image, 16, u64::MAX);
+    let made = recover::recover_image(image, MOST_SECTORS, u64::MAX);
     let answer = made.answer;
     let rows = made.rows;
     let count = rows.count;
-    let mut at = put_head(out, bytes / 4096, answer);
+    let mut at = put_head(out, bytes / SECTOR_LENGTH, answer);
     let mut n: usize = 0;
     while n < count {
         let r = rows.rows[n];

@@ -21,10 +21,10 @@ use Rattle.lists.proofs.Maps.{sum-map, map-in}
 use Rattle.lists.proofs.Out.{out-in}
 use Rattle.table.specs.declared.Page.{Page}
 use Rattle.table.specs.Table.{sequence, activePage, inSector, asFull}
-use Rattle.table.specs.Placed.{timesIn, Placed}
+use Rattle.table.specs.PagesPlaced.{timesIn, PagesPlaced}
 use Rattle.table.proofs.Places.{out-times, length-sum}
 use Rattle.order.specs.Order.{newerPage, kept, others, noEmpty, ordering, ordered, orderSteps, orderList}
-use Rattle.order.specs.Turns.{closed, fullMarks, keptMark}
+use Rattle.order.specs.Turns.{closedPage, fullMarks, keptMark}
 use Rattle.order.proofs.Turns.{kept-in, ordering-is, ordered-is}
 
 nothing-kept : (ps : List Page) → kept ps ≡ none → (ordering ps ≡ []) × (ordered ps ≡ ps)
@@ -37,7 +37,7 @@ kept-active ps a e = keep-in activePage ps a (best-in newerPage (keep activePage
 
 -- ---- sums over the list
 
-module _ {n : ℕ} {ps : List Page} {fs : List ℕ} (h : Placed n ps fs) where
+module _ {n : ℕ} {ps : List Page} {fs : List ℕ} (h : PagesPlaced n ps fs) where
   -- whatever does not tell an Active page from a Full one
   pub ordered-sum : (f : Page → ℕ) → ((p : Page) → activePage p ≡ true → f (asFull p) ≡ f p) → sumOf f (ordered ps) ≡ sumOf f ps
   ordered-sum f same = go (kept ps) refl
@@ -54,14 +54,14 @@ module _ {n : ℕ} {ps : List Page} {fs : List ℕ} (h : Placed n ps fs) where
       go none e = ap (sumOf f) (nothing-kept ps e .1)
       go (some a) e =
           let x = cond (noEmpty a) (asFull a) a in
-          let i : sumOf f (ordered ps) ≡ sumOf f (map closed (others a ps)) + sumOf f (x ∷ []) = ap (sumOf f) (ordered-is ps a e) ∙ sum-append f (map closed (others a ps)) (x ∷ []) in
-          let j : sumOf f (map closed (others a ps)) ≡ sumOf f (others a ps) = sum-map f closed (others a ps) ∙ sum-ext (λ (p : Page). f (closed p)) f (others a ps) (λ p m. if-active p (activePage p) refl) in
+          let i : sumOf f (ordered ps) ≡ sumOf f (map closedPage (others a ps)) + sumOf f (x ∷ []) = ap (sumOf f) (ordered-is ps a e) ∙ sum-append f (map closedPage (others a ps)) (x ∷ []) in
+          let j : sumOf f (map closedPage (others a ps)) ≡ sumOf f (others a ps) = sum-map f closedPage (others a ps) ∙ sum-ext (λ (p : Page). f (closedPage p)) f (others a ps) (λ p m. if-active p (activePage p) refl) in
           let k = sum-one f (x ∷ []) x refl in
           let v = if-full a (noEmpty a) (kept-active ps a e) in
           let w = out-times h a (kept-in ps a e) f in
           omega arith
 
-  pub ordered-placed : Placed n (ordered ps) fs
+  pub ordered-placed : PagesPlaced n (ordered ps) fs
   unfolding timesIn
   ordered-placed =
       record {
@@ -83,11 +83,11 @@ ordered-in ps p m = go (kept ps) refl
 
     go : (o : Option Page) → kept ps ≡ o → Was p
     go none e = (p, rw (nothing-kept ps e .1) at m, refl, refl)
-    go (some a) e = ⊎-elim before last (in-append p (map closed (others a ps)) (cond (noEmpty a) (asFull a) a ∷ []) (rw (ordered-is ps a e) at m))
+    go (some a) e = ⊎-elim before last (in-append p (map closedPage (others a ps)) (cond (noEmpty a) (asFull a) a ∷ []) (rw (ordered-is ps a e) at m))
       where
-        before : p ∈ map closed (others a ps) → Was p
+        before : p ∈ map closedPage (others a ps) → Was p
         before k =
-            let z = map-in closed (others a ps) p k in
+            let z = map-in closedPage (others a ps) p k in
             rw (z .2) (either (z .0) (activePage (z .0)) (out-in (inSector (a .sector)) ps (z .0) (z .1)))
 
         last : p ∈ (cond (noEmpty a) (asFull a) a ∷ []) → Was p

@@ -12,12 +12,12 @@ use Rattle.lists.specs.Lists.{keep}
 use Rattle.lists.proofs.Lengths.{length-keep}
 use Rattle.table.specs.declared.Page.{Page}
 use Rattle.table.specs.Table.{activePage}
-use Rattle.table.specs.Placed.{Placed}
+use Rattle.table.specs.PagesPlaced.{PagesPlaced}
 use Rattle.table.proofs.Places.{length-sum, out-times}
 use Rattle.order.specs.Order.{kept, others, noEmpty, orderSteps, ordering}
 use Rattle.order.proofs.Turns.{kept-in}
 
-pub ordering-most : {n : ℕ} {ps : List Page} {fs : List ℕ} → Placed n ps fs → length (ordering ps) ≤ 16
+pub ordering-most : {n : ℕ} {ps : List Page} {fs : List ℕ} → PagesPlaced n ps fs → length (ordering ps) ≤ 16
 unfolding ordering orderSteps
 ordering-most {n} {ps} {fs} h = go (kept ps) refl
   where

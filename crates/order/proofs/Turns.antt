@@ -14,7 +14,7 @@ use Rattle.item.specs.Mark.{markFull}
 use Rattle.lists.proofs.Member.{_∈_}
 use Rattle.lists.proofs.Search.{keep-in, best-in}
 use Rattle.order.specs.Order.{newerPage, kept, others, noEmpty, orderSteps, orderList, ordering, ordered}
-use Rattle.order.specs.Turns.{closed, fullMarks, keptMark}
+use Rattle.order.specs.Turns.{closedPage, fullMarks, keptMark}
 
 module _ (x : Page) (xs : List Page) where
   pub marks-active : activePage x ≡ true → fullMarks (x ∷ xs) ≡ markFull (x .sector) ∷ fullMarks xs
@@ -26,13 +26,13 @@ module _ (x : Page) (xs : List Page) where
   marks-other e = rw e
 
 -- one page more is closed
-pub closed-more : (ys xs : List Page) (i : ℕ) (d : Page) → i < length ys → i < length xs → take i ys ≡ map closed (take i xs)
-    → take (i + 1) (set ys i (closed (getD xs i d))) ≡ map closed (take (i + 1) xs)
+pub closed-more : (ys xs : List Page) (i : ℕ) (d : Page) → i < length ys → i < length xs → take i ys ≡ map closedPage (take i xs)
+    → take (i + 1) (set ys i (closedPage (getD xs i d))) ≡ map closedPage (take (i + 1) xs)
 closed-more ys xs i d hy hx e =
     rw (add-one i) (
-    take-suc-set ys i (closed (getD xs i d)) hy
-    ∙ ap (λ (r : List Page). r ++ (closed (getD xs i d) ∷ [])) e
-    ∙ sym (ap (map closed) (take-suc xs i d hx) ∙ map-append closed (take i xs) (getD xs i d ∷ []))
+    take-suc-set ys i (closedPage (getD xs i d)) hy
+    ∙ ap (λ (r : List Page). r ++ (closedPage (getD xs i d) ∷ [])) e
+    ∙ sym (ap (map closedPage) (take-suc xs i d hx) ∙ map-append closedPage (take i xs) (getD xs i d ∷ []))
     )
 
 -- the stage, where a page is kept
@@ -45,6 +45,6 @@ module _ (ps : List Page) (a : Page) (e : kept ps ≡ some a) where
   unfolding ordering orderSteps fullMarks keptMark
   ordering-is = rw e
 
-  pub ordered-is : ordered ps ≡ map closed (others a ps) ++ (cond (noEmpty a) (asFull a) a ∷ [])
+  pub ordered-is : ordered ps ≡ map closedPage (others a ps) ++ (cond (noEmpty a) (asFull a) a ∷ [])
   unfolding ordered orderList
   ordered-is = rw e

@@ -8,8 +8,8 @@ use Rattle.table.specs.declared.Page.{Page}
 use Rattle.table.specs.Table.{activePage, asFull}
 use Rattle.order.specs.Order.{noEmpty}
 
-abbrev pub closed : Page → Page
-closed p = cond (activePage p) (asFull p) p
+abbrev pub closedPage : Page → Page
+closedPage p = cond (activePage p) (asFull p) p
 
 -- "Other Active pages are marked Full in list order. If the kept one has no Empty entry it is marked Full."
 unfoldable pub fullMarks : List Page → List Step

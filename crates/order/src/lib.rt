@@ -13,14 +13,14 @@ ghost use Rattle.item.specs.Mark.{markFull};
 ghost use Rattle.lists.specs.Lists.{keep};
 ghost use Rattle.table.specs.Table.{sectorsOf, activePage, asFull, listed, freed, Sized, Holds};
 ghost use Rattle.table.specs.Sought.{soughtOf, betterAmong};
-ghost use Rattle.table.specs.Placed.{Placed};
+ghost use Rattle.table.specs.PagesPlaced.{PagesPlaced};
 ghost use Rattle.order.specs.Order.{newerPage, kept, noEmpty, ordering, ordered};
-ghost use Rattle.order.specs.Turns.{closed, fullMarks, keptMark};
+ghost use Rattle.order.specs.Turns.{closedPage, fullMarks, keptMark};
 
 // What became of this stage's steps, and the lists as it leaves them.
 pub struct OrderRan {
     pub ran: Ran,
-    pub lists: Table,
+    pub table: Table,
 }
 
 // The better of a page and the best Active one of those behind it: among equals the first.
@@ -32,27 +32,27 @@ fn better_of(p: Page, best: Sought) -> Sought
     if !table::is_active(state) {
         return best;
     }
-    let Sought::Found(q) = best else {
-        return Sought::Found(p);
+    let Sought::One(q) = best else {
+        return Sought::One(p);
     };
     let behind = q.seen;
     if seen.sequence < behind.sequence {
-        Sought::Found(q)
+        Sought::One(q)
     } else {
-        Sought::Found(p)
+        Sought::One(p)
     }
 }
 
 // The Active page that stays. The list is gone through from its end, so that the first of equals stands.
-fn kept_page(t: Table) -> Sought
-    requires { ⌜ Sized t ⌝ }
-    ensures { λ r. ⌜ r ≡ soughtOf (kept (listed t)) ⌝ }
+fn kept_page(table: Table) -> Sought
+    requires { ⌜ Sized table ⌝ }
+    ensures { λ r. ⌜ r ≡ soughtOf (kept (listed table)) ⌝ }
 {
     let mut best = Sought::Nothing;
-    let mut i = t.count;
+    let mut i = table.count;
     while 0 < i {
         i -= 1;
-        let p = t.pages[i];
+        let p = table.pages[i];
         best = better_of(p, best);
     }
     best
@@ -60,7 +60,7 @@ fn kept_page(t: Table) -> Sought
 
 // The page, Full if it was Active.
 fn close(p: Page) -> Page
-    ensures { λ r. ⌜ r ≡ closed p ⌝ }
+    ensures { λ r. ⌜ r ≡ closedPage p ⌝ }
 {
     let seen = p.seen;
     let state = seen.state;
@@ -71,15 +71,15 @@ fn close(p: Page) -> Page
 }
 
 // The list with each Active page Full.
-fn close_all(t: Table) -> Table
-    requires { ⌜ Sized t ⌝ }
-    ensures { λ r. ⌜ Holds r (map closed (listed t)) (freed t) × (r .count ≡ t .count) ⌝ }
+fn close_all(table: Table) -> Table
+    requires { ⌜ Sized table ⌝ }
+    ensures { λ r. ⌜ Holds r (map closedPage (listed table)) (freed table) × (r .count ≡ table .count) ⌝ }
 {
-    let count = t.count;
-    let mut out = t;
+    let count = table.count;
+    let mut out = table;
     let mut i: usize = 0;
     while i < count {
-        let p = t.pages[i];
+        let p = table.pages[i];
         out.pages[i] = close(p);
         i += 1;
     }
@@ -98,15 +98,15 @@ fn kept_as(p: Page) -> Page
 }
 
 // Marks the Active pages of the list Full, in list order.
-fn mark_all(image: &mut [u8], t: Table, allowance: u64) -> Ran
-    requires { ⌜ Sized t × Placed (sectorsOf (now image)) (listed t) (freed t) ⌝ }
-    ensures { λ r. ⌜ Did (fullMarks (listed t)) allowance (now (image .entry)) (now (image .exit)) r ⌝ }
+fn mark_all(image: &mut [u8], table: Table, allowance: u64) -> Ran
+    requires { ⌜ Sized table × PagesPlaced (sectorsOf (now image)) (listed table) (freed table) ⌝ }
+    ensures { λ r. ⌜ Did (fullMarks (listed table)) allowance (now (image .entry)) (now (image .exit)) r ⌝ }
 {
-    let count = t.count;
+    let count = table.count;
     let mut left = allowance;
     let mut i: usize = 0;
     while i < count {
-        let p = t.pages[i];
+        let p = table.pages[i];
         let seen = p.seen;
         let state = seen.state;
         if !table::is_active(state) {
@@ -138,7 +138,7 @@ fn mark_kept(image: &mut [u8], p: Page, left: u64) -> Ran
 
 // Marks the others that are Active Full, then the kept page.
 fn make_marks(image: &mut [u8], others: Table, kept: Page, allowance: u64) -> Ran
-    requires { ⌜ Sized others × Placed (sectorsOf (now image)) (listed others) (freed others) × (kept .sector * 4096 + 4096 ≤ length (now image)) ⌝ }
+    requires { ⌜ Sized others × PagesPlaced (sectorsOf (now image)) (listed others) (freed others) × (kept .sector * 4096 + 4096 ≤ length (now image)) ⌝ }
     ensures { λ r. ⌜ Did (fullMarks (listed others) ++ keptMark kept) allowance (now (image .entry)) (now (image .exit)) r ⌝ }
 {
     let r = mark_all(image, others, allowance);
@@ -149,20 +149,20 @@ fn make_marks(image: &mut [u8], others: Table, kept: Page, allowance: u64) -> Ra
 }
 
 // Makes the steps of this stage for the pages that the table lists, and hands out the lists as it leaves them.
-pub fn order_pages(image: &mut [u8], t: Table, allowance: u64) -> OrderRan
-    requires { ⌜ Sized t × Placed (sectorsOf (now image)) (listed t) (freed t) ⌝ }
-    ensures { λ r. ⌜ Did (ordering (listed t)) allowance (now (image .entry)) (now (image .exit)) (r .ran) × Holds (r .lists) (ordered (listed t)) (freed t) ⌝ }
+pub fn order_pages(image: &mut [u8], table: Table, allowance: u64) -> OrderRan
+    requires { ⌜ Sized table × PagesPlaced (sectorsOf (now image)) (listed table) (freed table) ⌝ }
+    ensures { λ r. ⌜ Did (ordering (listed table)) allowance (now (image .entry)) (now (image .exit)) (r .ran) × Holds (r .table) (ordered (listed table)) (freed table) ⌝ }
 {
-    let Sought::Found(a) = kept_page(t) else {
+    let Sought::One(a) = kept_page(table) else {
         return OrderRan {
             ran: Ran::Done(allowance),
-            lists: t,
+            table: table,
         };
     };
-    let others = table::take_out(t, a.sector);
+    let others = table::take_out(table, a.sector);
     let ran = make_marks(image, others, a, allowance);
     OrderRan {
         ran,
-        lists: table::append_page(close_all(others), kept_as(a)),
+        table: table::append_page(close_all(others), kept_as(a)),
     }
 }

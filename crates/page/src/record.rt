@@ -1,5 +1,6 @@
 // The page record of a sector.
 use crate::state::PageState;
+use crc::CrcTable;
 ghost use mathlib.Core.Path.{_≡_};
 ghost use lib.ListN.{length};
 ghost use Rattle.crc.specs.Table.{crcTable};
@@ -15,7 +16,7 @@ pub struct PageRecord {
     pub illegal: u8,
 }
 
-pub fn page_record(t: &[u32; 324], s: &[u8]) -> PageRecord
+pub fn page_record(t: &CrcTable, s: &[u8]) -> PageRecord
     requires { ⌜ (now t ≡ crcTable) × (length (now s) ≡ 4096) ⌝ }
     ensures { λ r. ⌜ r ≡ recordOf (now (s .entry)) ⌝ }
 {

@@ -1,4 +1,5 @@
 // The state of a sector.
+use crc::CrcTable;
 ghost use mathlib.Core.Path.{_≡_};
 ghost use mathlib.Core.List.{[], _∷_};
 ghost use Prim.Native.Nat.{_≤_};
@@ -66,7 +67,7 @@ fn state_of_word(b0: u8, b1: u8, b2: u8, b3: u8) -> PageState
 }
 
 // The state of the sector `s`. A used sector fails the test for Blank at its first byte, so the test comes first.
-pub fn page_state(t: &[u32; 324], s: &[u8]) -> PageState
+pub fn page_state(t: &CrcTable, s: &[u8]) -> PageState
     requires { ⌜ (now t ≡ crcTable) × (length (now s) ≡ 4096) ⌝ }
     ensures { λ r. ⌜ r ≡ stateOf (now (s .entry)) ⌝ }
 {

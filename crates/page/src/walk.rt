@@ -1,6 +1,10 @@
 // The item walk of a sector.
+use crc::CrcTable;
 use entry::Key;
 use entry::Kind;
+use layout::ENTRIES_AT;
+use layout::ENTRY_BYTES;
+use layout::PAGE_ENTRIES;
 ghost use mathlib.Core.Path.{_≡_};
 ghost use mathlib.Core.List.{_++_, map};
 ghost use Prim.Native.Nat.{_+_, _<_, _≤_};
@@ -25,7 +29,7 @@ pub enum Reading {
 }
 
 // Whether an item begins at entry `i`. The CRC is tested late: it is what costs time.
-fn is_item(t: &[u32; 324], s: &[u8], i: usize) -> bool
+fn is_item(t: &CrcTable, s: &[u8], i: usize) -> bool
     requires { ⌜ (now t ≡ crcTable) × (length (now s) ≡ 4096) × (i < 126) ⌝ }
     ensures { λ r. ⌜ r ≡ isItem (now (s .entry)) i ⌝ }
 {
@@ -33,7 +37,7 @@ fn is_item(t: &[u32; 324], s: &[u8], i: usize) -> bool
     if state != 2 {
         return false;
     }
-    let at = 64 + i * 32;
+    let at = ENTRIES_AT + i * ENTRY_BYTES;
     let seen = word::le32(s, at + 4);
     let right = entry::entry_crc(t, s, at);
     if seen != right {
@@ -47,18 +51,18 @@ fn is_item(t: &[u32; 324], s: &[u8], i: usize) -> bool
     if span == 0 {
         return false;
     }
-    i + span <= 126
+    i + span <= PAGE_ENTRIES
 }
 
 // The item that begins at entry `i`, if one does.
-pub fn read_entry(t: &[u32; 324], s: &[u8], i: usize) -> Reading
+pub fn read_entry(t: &CrcTable, s: &[u8], i: usize) -> Reading
     requires { ⌜ (now t ≡ crcTable) × (length (now s) ≡ 4096) × (i < 126) ⌝ }
     ensures { λ r. ⌜ r ≡ readingOf (now (s .entry)) i ⌝ }
 {
     if !is_item(t, s, i) {
         return Reading::Nothing;
     }
-    let at = 64 + i * 32;
+    let at = ENTRIES_AT + i * ENTRY_BYTES;
     Reading::Item(ItemHeader {
         entry: i,
         namespace: s[at],
@@ -71,20 +75,20 @@ pub fn read_entry(t: &[u32; 324], s: &[u8], i: usize) -> Reading
 }
 
 // The entry numbers of the sector's items plus `base`, into `out` from `from` on: one walk, each entry read once and no header made. Answers where they end.
-pub fn places(t: &[u32; 324], s: &[u8], base: usize, out: &mut [u16], from: usize) -> usize
+pub fn places(t: &CrcTable, s: &[u8], base: usize, out: &mut [u16], from: usize) -> usize
     requires { ⌜ (now t ≡ crcTable) × (length (now s) ≡ 4096) × (base + 126 ≤ 65536) × (from + 126 ≤ length (now out)) ⌝ }
     ensures { λ r. ⌜ (take r (now (out .exit)) ≡ take from (now (out .entry)) ++ map (λ (x : Laid). base + x .entry) (walk (now (s .entry)) 126 0)) × (r ≤ from + 126) ⌝ }
 {
     let mut k = from;
     let mut i: usize = 0;
-    while i < 126 {
+    while i < PAGE_ENTRIES {
         if !is_item(t, s, i) {
             i += 1;
             continue;
         }
         out[k] = (base + i) as u16;
         k += 1;
-        i += word::size(s[64 + i * 32 + 2]);
+        i += word::size(s[ENTRIES_AT + i * ENTRY_BYTES + 2]);
     }
     k
 }

@@ -1,8 +1,13 @@
 // Whether stages 3 and 4 have nothing to repair, in time linear in the items: a table leads from names to items, and each part of a blob is tested by it.
+mod fits;
 mod names;
 mod slots;
-mod tests;
 
+use crc::CrcTable;
+use layout::FIRST_PLACE;
+use layout::PAGE_ENTRIES;
+use layout::SECTOR_BYTES;
+use layout::SECTOR_PLACES;
 use table::Table;
 ghost use mathlib.Core.Path.{_≡_};
 ghost use mathlib.Core.Bool.{true};
@@ -18,21 +23,30 @@ ghost use Rattle.quick.specs.Calm.{Calm, tot};
 ghost use Rattle.quick.specs.Slots.{Leads};
 ghost use Rattle.quick.specs.Fits.{Named};
 
+// The slots: some two for each item that an image can hold.
+pub const SLOTS: usize = 4096;
+
 // Fills the table page by page, so that a list of one page's places is enough. Says whether no two judged items have the same name.
-fn fill_all(t: &[u32; 324], image: &[u8], lists: Table, slots: &mut [u16]) -> bool
-    requires { ⌜ (now t ≡ crcTable) × Sized lists × Each (Lies (now image)) (listed lists) × (4096 ≤ length (now slots)) ⌝ }
-    ensures { λ r. ⌜ (r ≡ true → Leads (now (slots .exit)) (now (image .entry)) × Named (now (slots .exit)) (now (image .entry)) (map placeOf (found (listed lists) (now (image .entry))))) ⌝ }
+fn fill_all(t: &CrcTable, image: &[u8], table: Table, slots: &mut [u16]) -> bool
+    requires { ⌜ (now t ≡ crcTable) × Sized table × Each (Lies (now image)) (listed table) × (4096 ≤ length (now slots)) ⌝ }
+    ensures { λ r. ⌜ (r ≡ true → Leads (now (slots .exit)) (now (image .entry)) × Named (now (slots .exit)) (now (image .entry)) (map placeOf (found (listed table) (now (image .entry))))) ⌝ }
 {
     slots::clear(slots);
-    let count = lists.count;
-    let mut places = [0u16; 126];
+    let count = table.count;
+    let mut places = [0u16; PAGE_ENTRIES];
     let mut i: usize = 0;
     while i < count {
-        let p = lists.pages[i];
+        let p = table.pages[i];
         let sector = p.sector as usize;
-        let a = sector * 4096;
-        let e = a + 4096;
-        let k = page::places(t, &image[a..e], sector * 128 + 2, &mut places, 0);
+        let a = sector * SECTOR_BYTES;
+        let e = a + SECTOR_BYTES;
+        let k = page::places(
+            t,
+            &image[a..e],
+            sector * SECTOR_PLACES + FIRST_PLACE,
+            &mut places,
+            0,
+        );
         if !slots::fill(image, &places[..k], slots) {
             return false;
         }
@@ -42,12 +56,12 @@ fn fill_all(t: &[u32; 324], image: &[u8], lists: Table, slots: &mut [u16]) -> bo
 }
 
 // True only where no step of the two stages is to be made; where it is false, the stages decide. `slots` is overwritten.
-pub fn is_calm(t: &[u32; 324], image: &[u8], lists: Table, slots: &mut [u16]) -> bool
-    requires { ⌜ (now t ≡ crcTable) × Sized lists × Each (Lies (now image)) (listed lists) × (4096 ≤ length (now slots)) ⌝ }
-    ensures { λ r. ⌜ (r ≡ true → Calm (λ f. tot f (found (listed lists) (now (image .entry))))) ⌝ }
+pub fn is_calm(t: &CrcTable, image: &[u8], table: Table, slots: &mut [u16]) -> bool
+    requires { ⌜ (now t ≡ crcTable) × Sized table × Each (Lies (now image)) (listed table) × (4096 ≤ length (now slots)) ⌝ }
+    ensures { λ r. ⌜ (r ≡ true → Calm (λ f. tot f (found (listed table) (now (image .entry))))) ⌝ }
 {
-    if fill_all(t, image, lists, slots) {
-        tests::all_fit(image, slots)
+    if fill_all(t, image, table, slots) {
+        fits::all_fit(image, slots)
     } else {
         false
     }

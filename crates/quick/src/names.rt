@@ -1,11 +1,15 @@
 // The name that an item is looked up by: namespace and key, and of a chunk its chunk index too.
 use found::Rank;
+use layout::ENTRY_BYTES;
 ghost use mathlib.Core.Path.{_≡_};
 ghost use Prim.Native.Nat.{_<_};
 ghost use lib.Dec.{eqb};
 ghost use Rattle.found.specs.Places.{itemAt, Placed};
 ghost use Rattle.found.specs.Ranks.{rankNumber};
 ghost use Rattle.quick.specs.Names.{judged, frontOf, nameOf, chunkNumber, chunkName, slotOf};
+
+// As many as there are slots: a name's hash is a slot.
+const HASHES: u64 = 4096;
 
 // Whether one of the stages judges the item.
 pub fn is_judged(image: &[u8], place: usize) -> bool
@@ -25,7 +29,7 @@ fn front_at(image: &[u8], place: usize) -> u32
 {
     let space = word::wide(found::namespace_at(image, place));
     if found::is_chunk(image, place) {
-        256 + space * 256 + word::wide(image[place * 32 + 3])
+        256 + space * 256 + word::wide(image[place * ENTRY_BYTES + 3])
     } else {
         space
     }
@@ -37,7 +41,7 @@ pub fn name_at(image: &[u8], place: usize) -> Rank
 {
     Rank {
         high: front_at(image, place),
-        key: entry::key_at(image, place * 32),
+        key: entry::key_at(image, place * ENTRY_BYTES),
     }
 }
 
@@ -53,7 +57,7 @@ pub fn number_at(image: &[u8], place: usize) -> u32
     requires { ⌜ Placed (now image) place ⌝ }
     ensures { λ r. ⌜ r ≡ chunkNumber (itemAt (now (image .entry)) place .raw) ⌝ }
 {
-    word::wide(image[place * 32 + 3]) % 128
+    word::wide(image[place * ENTRY_BYTES + 3]) % 128
 }
 
 // The name of the chunk number `n` of version `v`.
@@ -78,5 +82,5 @@ pub fn slot_of(name: Rank) -> usize
     let high = both / 0x1_0000_0000 * 0x9E37_79B1;
     let low = both % 0x1_0000_0000 * 0x85EB_CA77;
     let mixed = (high ^ low) ^ front * 0x1656_67B1;
-    ((mixed ^ mixed / 0x1_0000_0000) / 0x10_0000 % 4096) as usize
+    ((mixed ^ mixed / 0x1_0000_0000) / 0x10_0000 % HASHES) as usize
 }

@@ -1,4 +1,5 @@
 // A table of the judged items, by their names. A slot holds an item's place, which is never 0, so that 0 is a free slot.
+use super::SLOTS;
 use super::names::has_name;
 use super::names::is_judged;
 use super::names::name_at;
@@ -14,6 +15,9 @@ ghost use Rattle.found.specs.Ranks.{rankNumber};
 ghost use Rattle.quick.specs.Names.{slotOf};
 ghost use Rattle.quick.specs.Slots.{told, gap, Leads};
 ghost use Rattle.quick.specs.Fits.{Filled};
+
+// How many slots a name is looked for in: images whose names crowd one place stay cheap.
+const LOOKS: usize = 64;
 
 pub fn clear(slots: &mut [u16])
     ensures { λ r. ⌜ ((i : ℕ) → getD (now (slots .exit)) i 0 ≡ 0) ⌝ }
@@ -32,7 +36,7 @@ pub fn find(image: &[u8], slots: &[u16], name: Rank) -> usize
 {
     let mut i = slot_of(name);
     let mut n: usize = 0;
-    while n < 64 {
+    while n < LOOKS {
         let place = slots[i] as usize;
         if place == 0 {
             return 0;
@@ -40,7 +44,7 @@ pub fn find(image: &[u8], slots: &[u16], name: Rank) -> usize
         if has_name(image, place, name) {
             return place;
         }
-        i = (i + 1) % 4096;
+        i = (i + 1) % SLOTS;
         n += 1;
     }
     0
@@ -53,18 +57,18 @@ fn free_slot(image: &[u8], slots: &[u16], name: Rank) -> usize
 {
     let mut i = slot_of(name);
     let mut n: usize = 0;
-    while n < 64 {
+    while n < LOOKS {
         let place = slots[i] as usize;
         if place == 0 {
             return i;
         }
         if has_name(image, place, name) {
-            return 4096;
+            return SLOTS;
         }
-        i = (i + 1) % 4096;
+        i = (i + 1) % SLOTS;
         n += 1;
     }
-    4096
+    SLOTS
 }
 
 // Puts each judged item into the table. Says whether none has a name that is there already: the table then leads from each one's name to it.
@@ -80,7 +84,7 @@ pub fn fill(image: &[u8], places: &[u16], slots: &mut [u16]) -> bool
             continue;
         }
         let free = free_slot(image, slots, name_at(image, place));
-        if 4096 <= free {
+        if SLOTS <= free {
             return false;
         }
         slots[free] = place as u16;

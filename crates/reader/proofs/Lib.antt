@@ -1,3 +1,3 @@
 pub mod Told
 pub mod Begins
-pub mod Handed
+pub mod HandedOut

@@ -10,8 +10,8 @@ use Rattle.word.proofs.Bytes.{part-byte, le-part, be-part}
 use Rattle.entry.specs.Fields.{entryAt, spanOf, keyOf}
 use Rattle.page.specs.Walk.{isItem, walk, headerOf}
 use Rattle.page.proofs.Walking.{item-span, walk-past, walk-item}
-use Rattle.reader.specs.declared.Found.the-variants.{Item}
-use Rattle.reader.specs.Reader.{stepOf}
+use Rattle.reader.specs.declared.Handed.the-variants.{Item}
+use Rattle.reader.specs.Reader.{readOf}
 
 module _ (t : List ℕ) (at n : ℕ) (h : 1 ≤ n) where
   byte : (k : ℕ) → k < 32 → getD (part t at (n * 32)) k 0 ≡ getD (part t at 32) k 0
@@ -31,12 +31,12 @@ module _ (t : List ℕ) (at n : ℕ) (h : 1 ≤ n) where
 
 module _ (t : List ℕ) (i : ℕ) where
   -- what is handed out where an item begins, and past the last entry
-  pub step-item : isItem t i ≡ true → stepOf (walk t 126 i) ≡ record { found = Item (headerOf i (entryAt t i)); next = i + spanOf (entryAt t i) }
-  unfolding stepOf
+  pub step-item : isItem t i ≡ true → readOf (walk t 126 i) ≡ record { handed = Item (headerOf i (entryAt t i)); next = i + spanOf (entryAt t i) }
+  unfolding readOf
   step-item e =
       let n = spanOf (entryAt t i) in
       let s = item-span t i e .0 in
       rw (walk-item t i e, header-told t (64 + i * 32) n s i, span-told t (64 + i * 32) n s)
 
-  pub step-end : 126 ≤ i → stepOf (walk t 126 i) ≡ stepOf []
-  step-end h = ap stepOf (walk-past t 126 i h)
+  pub step-end : 126 ≤ i → readOf (walk t 126 i) ≡ readOf []
+  step-end h = ap readOf (walk-past t 126 i h)

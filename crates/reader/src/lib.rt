@@ -1,4 +1,7 @@
 // The item reader: it keeps a lent sector and its place on it. The walk itself is on a plain slice and a number.
+use crc::CrcTable;
+use layout::PAGE_ENTRIES;
+use layout::SECTOR_BYTES;
 use page::ItemHeader;
 use page::Reading;
 ghost use mathlib.Core.Path.{_≡_};
@@ -7,62 +10,62 @@ ghost use Prim.Native.Nat.{_<_, _≤_};
 ghost use lib.ListN.{length};
 ghost use Rattle.crc.specs.Table.{crcTable};
 ghost use Rattle.page.specs.Walk.{walk};
-ghost use Rattle.reader.specs.Reader.{stepOf, stepFrom, beginsAt, stepAt, newReader, movedReader, resultOf};
+ghost use Rattle.reader.specs.Reader.{readOf, readOn, beginsAt, readFrom, newReader, movedReader, resultOf};
 
 // What the reader hands out. `NotSector` is result 1: the lent bytes are not 4,096.
-pub enum Found {
+pub enum Handed {
     Item(ItemHeader),
     End,
     NotSector,
 }
 
 // What stands at a place, and the place behind it.
-pub struct Step {
-    pub found: Found,
+pub struct Read {
+    pub handed: Handed,
     pub next: usize,
 }
 
 // The number that document 01 gives an answer.
-pub fn result(found: Found) -> u8
-    ensures { λ r. ⌜ r ≡ resultOf found ⌝ }
+pub fn result(handed: Handed) -> u8
+    ensures { λ r. ⌜ r ≡ resultOf handed ⌝ }
 {
-    match found {
-        Found::Item(_) => 0,
-        Found::End => 0,
-        Found::NotSector => 1,
+    match handed {
+        Handed::Item(_) => 0,
+        Handed::End => 0,
+        Handed::NotSector => 1,
     }
 }
 
 // The first item at entry `from` or after.
-fn next_item(t: &[u32; 324], s: &[u8], from: usize) -> Step
+fn next_item(t: &CrcTable, s: &[u8], from: usize) -> Read
     requires { ⌜ (now t ≡ crcTable) × (length (now s) ≡ 4096) ⌝ }
-    ensures { λ r. ⌜ r ≡ stepOf (walk (now (s .entry)) 126 from) ⌝ }
+    ensures { λ r. ⌜ r ≡ readOf (walk (now (s .entry)) 126 from) ⌝ }
 {
     let mut i = from;
-    while i < 126 {
+    while i < PAGE_ENTRIES {
         let Reading::Item(item) = page::read_entry(t, s, i) else {
             i += 1;
             continue;
         };
         let next = i + item.span;
-        return Step {
-            found: Found::Item(item),
+        return Read {
+            handed: Handed::Item(item),
             next,
         };
     }
-    Step {
-        found: Found::End,
-        next: 126,
+    Read {
+        handed: Handed::End,
+        next: PAGE_ENTRIES,
     }
 }
 
 // What a reader hands out whose place is `entry`. The sector is not judged here: that is done once, where a reader begins.
-fn step_from(s: &[u8], entry: usize) -> Step
-    ensures { λ r. ⌜ r ≡ stepFrom (now (s .entry)) entry ⌝ }
+fn next_from(s: &[u8], entry: usize) -> Read
+    ensures { λ r. ⌜ r ≡ readOn (now (s .entry)) entry ⌝ }
 {
-    if s.len() != 4096 {
-        return Step {
-            found: Found::NotSector,
+    if s.len() != SECTOR_BYTES {
+        return Read {
+            handed: Handed::NotSector,
             next: entry,
         };
     }
@@ -74,12 +77,12 @@ fn step_from(s: &[u8], entry: usize) -> Step
 pub fn begins_at(sector: &[u8]) -> usize
     ensures { λ r. ⌜ r ≡ beginsAt (now (sector .entry)) ⌝ }
 {
-    if sector.len() != 4096 {
+    if sector.len() != SECTOR_BYTES {
         return 0;
     }
     let t = crc::table();
     if page::is_free(page::page_state(&t, sector)) {
-        return 126;
+        return PAGE_ENTRIES;
     }
     0
 }
@@ -99,34 +102,34 @@ impl<'a> ItemReader<'a> {
     }
 
     // The next item; the reader moves on. Past the last item it answers `End`, each time it is asked.
-    pub fn next(&mut self) -> Found
-        ensures { λ r. ⌜ (r ≡ stepFrom (now (now (self .entry) .sector)) (now (self .entry) .entry) .found) × (now (self .exit) ≡ movedReader (now (self .entry))) ⌝ }
+    pub fn next(&mut self) -> Handed
+        ensures { λ r. ⌜ (r ≡ readOn (now (now (self .entry) .sector)) (now (self .entry) .entry) .handed) × (now (self .exit) ≡ movedReader (now (self .entry))) ⌝ }
     {
-        let step = step_from(self.sector, self.entry);
-        self.entry = step.next;
-        step.found
+        let read = next_from(self.sector, self.entry);
+        self.entry = read.next;
+        read.handed
     }
 }
 
-fn step_of(found: Found, next: usize) -> Step
-    ensures { λ r. ⌜ (r .found ≡ found) × (r .next ≡ next) ⌝ }
+fn read_of(handed: Handed, next: usize) -> Read
+    ensures { λ r. ⌜ (r .handed ≡ handed) × (r .next ≡ next) ⌝ }
 {
-    Step { found, next }
+    Read { handed, next }
 }
 
 // The reader's `next` for callers with plain parameters: what it hands out at its place `entry`, and its place after that. The place is one that
-// `begins_at` or an earlier step named.
-pub fn read_on(sector: &[u8], entry: usize) -> Step
-    ensures { λ r. ⌜ r ≡ stepFrom (now (sector .entry)) entry ⌝ }
+// `begins_at` or an earlier read named.
+pub fn read_on(sector: &[u8], entry: usize) -> Read
+    ensures { λ r. ⌜ r ≡ readOn (now (sector .entry)) entry ⌝ }
 {
     let mut r = ItemReader { sector, entry };
-    let found = r.next();
-    step_of(found, r.entry)
+    let handed = r.next();
+    read_of(handed, r.entry)
 }
 
 // What is handed out at any place, which no answer need have named: the sector is judged in each call. A whole sector is read from entry 0 on.
-pub fn read_from(sector: &[u8], entry: usize) -> Step
-    ensures { λ r. ⌜ r ≡ stepAt (now (sector .entry)) entry ⌝ }
+pub fn read_from(sector: &[u8], entry: usize) -> Read
+    ensures { λ r. ⌜ r ≡ readFrom (now (sector .entry)) entry ⌝ }
 {
     let first = begins_at(sector);
     if entry < first {

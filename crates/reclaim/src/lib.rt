@@ -3,7 +3,9 @@ mod plan;
 
 use answer::Answer;
 use answer::Stage;
+use crc::CrcTable;
 use flash::Ran;
+use layout::SECTOR_BYTES;
 use plan::Plan;
 ghost use mathlib.Core.Path.{_≡_};
 ghost use Prim.Native.Nat.{_+_, _*_, _≤_};
@@ -15,7 +17,7 @@ ghost use Rattle.reclaim.specs.Promise.{ReclaimPromise};
 
 // Marks the source Freeing first: a cut before the copy is whole is then seen by recovery, which makes it anew.
 fn move_marked(
-    t: &[u32; 324],
+    t: &CrcTable,
     image: &mut [u8],
     source: usize,
     target: usize,
@@ -40,7 +42,7 @@ pub fn reclaim(image: &mut [u8], allowance: u64) -> Answer
         return Answer::NotSectors;
     }
     let t = crc::table();
-    let sectors = image.len() / 4096;
+    let sectors = image.len() / SECTOR_BYTES;
     let plan = plan::plan_of(table::scan(&t, image, sectors));
     let ran = match plan {
         Plan::Refuse(answer) => return answer,

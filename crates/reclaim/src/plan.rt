@@ -13,6 +13,9 @@ ghost use Rattle.table.specs.Sought.{soughtOf, betterAmong};
 ghost use Rattle.reclaim.specs.Reclaim.{points, candidate, noFewerPoints, closed, chosen, planTo, plan};
 ghost use Rattle.reclaim.specs.Choosing.{targetOf};
 
+// A page's entries, as its record counts them.
+const ALL_ENTRIES: u8 = 126;
+
 // It is refused; the source is erased, since all its entries are Erased; or its items are moved to the target, which gets the sequence.
 pub enum Plan {
     Refuse(Answer),
@@ -56,30 +59,30 @@ fn better_of(next: u64, p: Page, best: Sought) -> Sought
     ensures { λ r. ⌜ r ≡ betterAmong candidate (noFewerPoints next) p best ⌝ }
 {
     let seen = p.seen;
-    if 126 <= seen.written {
+    if ALL_ENTRIES <= seen.written {
         return best;
     }
-    let Sought::Found(q) = best else {
-        return Sought::Found(p);
+    let Sought::One(q) = best else {
+        return Sought::One(p);
     };
     if points_of(next, p) <= points_of(next, q) {
-        Sought::Found(q)
+        Sought::One(q)
     } else {
-        Sought::Found(p)
+        Sought::One(p)
     }
 }
 
 // The page to reclaim. The list is gone through from its end, so that the last of equals stands.
-fn choose(t: Table, top: u32) -> Sought
-    requires { ⌜ Sized t × (top ≡ greatest sequence (listed t)) ⌝ }
-    ensures { λ r. ⌜ r ≡ soughtOf (chosen (listed t)) ⌝ }
+fn choose(table: Table, top: u32) -> Sought
+    requires { ⌜ Sized table × (top ≡ greatest sequence (listed table)) ⌝ }
+    ensures { λ r. ⌜ r ≡ soughtOf (chosen (listed table)) ⌝ }
 {
     let next = long(top) + 1;
     let mut best = Sought::Nothing;
-    let mut i = t.count;
+    let mut i = table.count;
     while 0 < i {
         i -= 1;
-        let p = t.pages[i];
+        let p = table.pages[i];
         best = better_of(next, p, best);
     }
     best
@@ -98,23 +101,23 @@ fn is_closed(state: PageState) -> bool
 }
 
 // "the last is taken first"
-fn last_free(t: Table) -> Target
-    requires { ⌜ Sized t ⌝ }
-    ensures { λ r. ⌜ r ≡ targetOf (getLast? (freed t)) ⌝ }
+fn last_free(table: Table) -> Target
+    requires { ⌜ Sized table ⌝ }
+    ensures { λ r. ⌜ r ≡ targetOf (getLast? (freed table)) ⌝ }
 {
-    let n = t.free_count;
+    let n = table.free_count;
     if n == 0 {
         return Target::NoSector;
     }
-    Target::Sector(t.free[n - 1] as usize)
+    Target::Sector(table.free[n - 1] as usize)
 }
 
 // The crate marks the page Freeing before it looks for a free one; here the looking comes first, so that a refusal changes nothing.
-fn plan_copy(t: Table, source: usize, top: u32) -> Plan
-    requires { ⌜ Sized t × (top ≡ greatest sequence (listed t)) ⌝ }
-    ensures { λ r. ⌜ r ≡ planTo (listed t) source (getLast? (freed t)) ⌝ }
+fn plan_copy(table: Table, source: usize, top: u32) -> Plan
+    requires { ⌜ Sized table × (top ≡ greatest sequence (listed table)) ⌝ }
+    ensures { λ r. ⌜ r ≡ planTo (listed table) source (getLast? (freed table)) ⌝ }
 {
-    let Target::Sector(target) = last_free(t) else {
+    let Target::Sector(target) = last_free(table) else {
         return Plan::Refuse(Answer::NoFreeSector);
     };
     if 0xFFFF_FFFD < top {
@@ -123,15 +126,15 @@ fn plan_copy(t: Table, source: usize, top: u32) -> Plan
     Plan::Move(source, target, top + 1)
 }
 
-pub fn plan_of(t: Table) -> Plan
-    requires { ⌜ Sized t ⌝ }
-    ensures { λ r. ⌜ r ≡ plan (listed t) (freed t) ⌝ }
+pub fn plan_of(table: Table) -> Plan
+    requires { ⌜ Sized table ⌝ }
+    ensures { λ r. ⌜ r ≡ plan (listed table) (freed table) ⌝ }
 {
-    if table::any_active(t) {
+    if table::any_active(table) {
         return Plan::Refuse(Answer::ActiveStands);
     }
-    let top = table::greatest_sequence(t);
-    let Sought::Found(p) = choose(t, top) else {
+    let top = table::greatest_sequence(table);
+    let Sought::One(p) = choose(table, top) else {
         return Plan::Refuse(Answer::AllWritten);
     };
     let seen = p.seen;
@@ -139,8 +142,8 @@ pub fn plan_of(t: Table) -> Plan
     if !is_closed(state) {
         return Plan::Refuse(Answer::NotReclaimable);
     }
-    if seen.erased == 126 {
+    if seen.erased == ALL_ENTRIES {
         return Plan::Clear(p.sector as usize);
     }
-    plan_copy(t, p.sector as usize, top)
+    plan_copy(table, p.sector as usize, top)
 }

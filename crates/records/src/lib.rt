@@ -1,4 +1,7 @@
 // Page records: one a sector, read after the last step and stored into the records that the caller lends.
+use crc::CrcTable;
+use layout::MOST_SECTORS;
+use layout::SECTOR_BYTES;
 use page::PageRecord;
 use page::PageState;
 ghost use mathlib.Core.Path.{_≡_};
@@ -9,7 +12,7 @@ ghost use Rattle.records.specs.Records.{filled, blankRecord, noRows, row
 
 // The records to store, by value: `count` is 0 where a call stores none.
 pub struct Rows {
-    pub rows: [PageRecord; 16],
+    pub rows: [PageRecord; MOST_SECTORS],
     pub count: usize,
 }
 
@@ -30,20 +33,20 @@ fn blank_record() -> PageRecord
 pub fn no_rows() -> Rows
     ensures { λ r. ⌜ r ≡ noRows ⌝ }
 {
-    let rows = [blank_record(); 16];
+    let rows = [blank_record(); MOST_SECTORS];
     Rows { rows, count: 0 }
 }
 
 // The record of each sector, in sector order.
-pub fn read_rows(t: &[u32; 324], image: &[u8], sectors: usize) -> Rows
+pub fn read_rows(t: &CrcTable, image: &[u8], sectors: usize) -> Rows
     requires { ⌜ (now t ≡ crcTable) × (length (now image) ≡ sectors * 4096) × (sectors ≤ 16) ⌝ }
     ensures { λ r. ⌜ r ≡ rowsOf (now (image .entry)) sectors ⌝ }
 {
-    let mut rows = [blank_record(); 16];
+    let mut rows = [blank_record(); MOST_SECTORS];
     let mut n: usize = 0;
     while n < sectors {
-        let a = n * 4096;
-        let e = a + 4096;
+        let a = n * SECTOR_BYTES;
+        let e = a + SECTOR_BYTES;
         rows[n] = page::page_record(t, &image[a..e]);
         n += 1;
     }

@@ -21,7 +21,7 @@ use Rattle.page.specs.declared.state.PageState.the-variants.{Blank, Corrupt, Ac
 use Rattle.table.specs.declared.Page.{Page}
 use Rattle.table.specs.declared.Table.{Table}
 use Rattle.table.specs.Table.{sectorsOf, pages, frees, sequence, active, freeing, activePage, freeingPage, asFull, listed, freed, Sized, Holds}
-use Rattle.table.specs.Placed.{Placed}
+use Rattle.table.specs.PagesPlaced.{PagesPlaced}
 use Rattle.table.proofs.Scanned.{pages-placed}
 use Rattle.order.specs.Order.{ordering, ordered}
 use Rattle.order.proofs.Kept.{ordered-placed, ordered-sum, ordered-in, ordered-greatest, ordering-keeps}
@@ -32,7 +32,7 @@ use Rattle.found.proofs.Lying.{lies-same, pages-lie}
 use Rattle.finishing.specs.Finishing.{freeings}
 use Rattle.recover.specs.Recover.{tooHigh}
 
-pub held-placed : (l : List ℕ) {t : Table} → sectorsOf l ≤ 16 → Holds t (pages l) (frees l) → Placed (sectorsOf l) (listed t) (freed t)
+pub held-placed : (l : List ℕ) {t : Table} → sectorsOf l ≤ 16 → Holds t (pages l) (frees l) → PagesPlaced (sectorsOf l) (listed t) (freed t)
 held-placed l s h = rw (h .list, h .free) (pages-placed l s)
 
 -- what stage 1 leaves: the image m, and the table u
@@ -40,7 +40,7 @@ pub record Ordered (l m : List ℕ) (u : Table) : Type 0 where
   pub sized : Sized u
   pub list : listed u ≡ ordered (pages l)
   pub free : freed u ≡ frees l
-  pub placed : Placed (sectorsOf m) (listed u) (freed u)
+  pub placed : PagesPlaced (sectorsOf m) (listed u) (freed u)
   pub lies : Each (Lies m) (listed u)
   pub few : sectorsOf m ≤ 16
   pub whole : length l ≡ sectorsOf l * 4096 → length m ≡ sectorsOf m * 4096

@@ -3,6 +3,7 @@ mod stages;
 
 use answer::Answer;
 use answer::Went;
+use layout::SECTOR_BYTES;
 use page::PageRecord;
 use records::Rows;
 use table::Table;
@@ -20,15 +21,15 @@ pub struct Recovered {
 }
 
 // Whether the sequences that stage 2 might take are not there.
-fn is_too_high(lists: Table) -> bool
-    requires { ⌜ Sized lists ⌝ }
-    ensures { λ r. ⌜ r ≡ tooHigh (listed lists) ⌝ }
+fn is_too_high(table: Table) -> bool
+    requires { ⌜ Sized table ⌝ }
+    ensures { λ r. ⌜ r ≡ tooHigh (listed table) ⌝ }
 {
-    let count = finishing::count_freeing(lists);
+    let count = finishing::count_freeing(table);
     if count == 0 {
         return false;
     }
-    0xFFFF_FFFE - count < table::greatest_sequence(lists) as usize
+    0xFFFF_FFFE - count < table::greatest_sequence(table) as usize
 }
 
 fn without_rows(answer: Answer) -> Recovered
@@ -47,16 +48,16 @@ pub fn recover_image(image: &mut [u8], lent: usize, allowance: u64) -> Recovered
     if !table::is_whole(image) {
         return without_rows(Answer::NotSectors);
     }
-    let sectors = image.len() / 4096;
+    let sectors = image.len() / SECTOR_BYTES;
     if lent < sectors {
         return without_rows(Answer::FewRecords);
     }
     let t = crc::table();
-    let lists = table::scan(&t, image, sectors);
-    if is_too_high(lists) {
+    let table = table::scan(&t, image, sectors);
+    if is_too_high(table) {
         return without_rows(Answer::SequencesSpent);
     }
-    let went = stages::make_stages(&t, image, lists, allowance);
+    let went = stages::make_stages(&t, image, table, allowance);
     let answer = answer::told(went, allowance);
     let Went::Ended(_) = went else {
         return without_rows(answer);

@@ -1,7 +1,10 @@
 // The stages in sequence.
 use answer::Stage;
 use answer::Went;
+use crc::CrcTable;
 use flash::Ran;
+use layout::SECTOR_BYTES;
+use quick::SLOTS;
 use table::Table;
 ghost use mathlib.Core.Path.{_≡_};
 ghost use Prim.Native.Nat.{_+_, _≤_, _*_};
@@ -12,7 +15,7 @@ ghost use Rattle.lists.specs.Lists.{greatest};
 ghost use Rattle.answer.specs.Staged.{tag};
 ghost use Rattle.answer.specs.Went.{Made};
 ghost use Rattle.table.specs.Table.{sectorsOf, pages, frees, sequence, listed, freed, Sized, Holds};
-ghost use Rattle.table.specs.Placed.{Placed};
+ghost use Rattle.table.specs.PagesPlaced.{PagesPlaced};
 ghost use Rattle.found.specs.Found.{found};
 ghost use Rattle.found.specs.Places.{placeOf, Lies};
 ghost use Rattle.lists.specs.Each.{Each};
@@ -22,109 +25,103 @@ ghost use Rattle.recover.specs.Recover.{lastStages, fromOrder, fromFinis
 ghost use mathlib.Core.Bool.{false};
 
 // Where there is nothing to repair, the last marks are all that is left of the stages.
-fn close_full(image: &mut [u8], lists: Table, allowed: u64) -> Went
-    requires { ⌜ Sized lists × Placed (sectorsOf (now image)) (listed lists) (freed lists) ⌝ }
-    ensures { λ r. ⌜ Made (tag Stage.Duplicates (lastMarks (listed lists) (now (image .entry)))) allowed (now (image .entry)) (now (image .exit)) r ⌝ }
+fn close_full(image: &mut [u8], table: Table, allowed: u64) -> Went
+    requires { ⌜ Sized table × PagesPlaced (sectorsOf (now image)) (listed table) (freed table) ⌝ }
+    ensures { λ r. ⌜ Made (tag Stage.Duplicates (lastMarks (listed table) (now (image .entry)))) allowed (now (image .entry)) (now (image .exit)) r ⌝ }
 {
-    let r = duplicates::make_last_marks(image, lists, allowed);
+    let r = duplicates::make_last_marks(image, table, allowed);
     answer::in_stage(Stage::Duplicates, r)
 }
 
 // Stage 4, on the items at the first `n` places in `room`.
-fn repair_items(image: &mut [u8], lists: Table, room: &mut [u16], n: usize, allowed: u64) -> Went
-    requires { ⌜ Sized lists × Placed (sectorsOf (now image)) (listed lists) (freed lists) × Each (Lies (now image)) (listed lists) × (take n (now room) ≡ map placeOf (found (listed lists) (now image))) × (n ≤ 2016) × (4032 ≤ length (now room)) ⌝ }
-    ensures { λ r. ⌜ Made (tag Stage.Duplicates (duplicateStage (listed lists) (now (image .entry)))) allowed (now (image .entry)) (now (image .exit)) r ⌝ }
+fn repair_items(image: &mut [u8], table: Table, room: &mut [u16], n: usize, allowed: u64) -> Went
+    requires { ⌜ Sized table × PagesPlaced (sectorsOf (now image)) (listed table) (freed table) × Each (Lies (now image)) (listed table) × (take n (now room) ≡ map placeOf (found (listed table) (now image))) × (n ≤ 2016) × (4032 ≤ length (now room)) ⌝ }
+    ensures { λ r. ⌜ Made (tag Stage.Duplicates (duplicateStage (listed table) (now (image .entry)))) allowed (now (image .entry)) (now (image .exit)) r ⌝ }
 {
-    let r = duplicates::duplicate_stage(image, lists, room, n, allowed);
+    let r = duplicates::duplicate_stage(image, table, room, n, allowed);
     answer::in_stage(Stage::Duplicates, r)
 }
 
 // Stage 4 after stage 3: mostly nothing is left to repair, which the quick test tells without a sort.
-fn after_blobs(
-    t: &[u32; 324],
-    image: &mut [u8],
-    lists: Table,
-    room: &mut [u16],
-    allowed: u64,
-) -> Went
-    requires { ⌜ (now t ≡ crcTable) × Sized lists × Placed (sectorsOf (now image)) (listed lists) (freed lists) × Each (Lies (now image)) (listed lists) × (4096 ≤ length (now room)) ⌝ }
-    ensures { λ r. ⌜ Made (tag Stage.Duplicates (duplicateStage (listed lists) (now (image .entry)))) allowed (now (image .entry)) (now (image .exit)) r ⌝ }
+fn after_blobs(t: &CrcTable, image: &mut [u8], table: Table, room: &mut [u16], allowed: u64) -> Went
+    requires { ⌜ (now t ≡ crcTable) × Sized table × PagesPlaced (sectorsOf (now image)) (listed table) (freed table) × Each (Lies (now image)) (listed table) × (4096 ≤ length (now room)) ⌝ }
+    ensures { λ r. ⌜ Made (tag Stage.Duplicates (duplicateStage (listed table) (now (image .entry)))) allowed (now (image .entry)) (now (image .exit)) r ⌝ }
 {
-    if quick::is_calm(t, image, lists, room) {
-        return close_full(image, lists, allowed);
+    if quick::is_calm(t, image, table, room) {
+        return close_full(image, table, allowed);
     }
-    let n = found::gather(t, image, lists, room);
-    repair_items(image, lists, room, n, allowed)
+    let n = found::gather(t, image, table, room);
+    repair_items(image, table, room, n, allowed)
 }
 
 // Stages 3 and 4, each on the items found as it begins, whose places stand in `room`. Where there is no blob these are the same.
-fn repair(t: &[u32; 324], image: &mut [u8], lists: Table, room: &mut [u16], allowed: u64) -> Went
-    requires { ⌜ (now t ≡ crcTable) × Sized lists × Placed (sectorsOf (now image)) (listed lists) (freed lists) × Each (Lies (now image)) (listed lists) × (4096 ≤ length (now room)) ⌝ }
-    ensures { λ r. ⌜ Made (lastStages (listed lists) (now (image .entry))) allowed (now (image .entry)) (now (image .exit)) r ⌝ }
+fn repair(t: &CrcTable, image: &mut [u8], table: Table, room: &mut [u16], allowed: u64) -> Went
+    requires { ⌜ (now t ≡ crcTable) × Sized table × PagesPlaced (sectorsOf (now image)) (listed table) (freed table) × Each (Lies (now image)) (listed table) × (4096 ≤ length (now room)) ⌝ }
+    ensures { λ r. ⌜ Made (lastStages (listed table) (now (image .entry))) allowed (now (image .entry)) (now (image .exit)) r ⌝ }
 {
-    let n = found::gather(t, image, lists, room);
+    let n = found::gather(t, image, table, room);
     if !blobs::any_part(image, &room[..n]) {
-        return repair_items(image, lists, room, n, allowed);
+        return repair_items(image, table, room, n, allowed);
     }
     let r = blobs::make_blobs(image, room, n, allowed);
     let Ran::Done(left) = r else {
         return Went::Short(Stage::Blobs);
     };
-    after_blobs(t, image, lists, room, left)
+    after_blobs(t, image, table, room, left)
 }
 
 // The quick test spares a clean store the stages' searches. It takes its slots from the array that the stages work in afterwards.
-fn last_stages(t: &[u32; 324], image: &mut [u8], lists: Table, allowed: u64) -> Went
-    requires { ⌜ (now t ≡ crcTable) × Sized lists × Placed (sectorsOf (now image)) (listed lists) (freed lists) × Each (Lies (now image)) (listed lists) ⌝ }
-    ensures { λ r. ⌜ Made (lastStages (listed lists) (now (image .entry))) allowed (now (image .entry)) (now (image .exit)) r ⌝ }
+fn last_stages(t: &CrcTable, image: &mut [u8], table: Table, allowed: u64) -> Went
+    requires { ⌜ (now t ≡ crcTable) × Sized table × PagesPlaced (sectorsOf (now image)) (listed table) (freed table) × Each (Lies (now image)) (listed table) ⌝ }
+    ensures { λ r. ⌜ Made (lastStages (listed table) (now (image .entry))) allowed (now (image .entry)) (now (image .exit)) r ⌝ }
 {
-    let mut room = [0u16; 4096];
-    if quick::is_calm(t, image, lists, &mut room) {
-        return close_full(image, lists, allowed);
+    let mut room = [0u16; SLOTS];
+    if quick::is_calm(t, image, table, &mut room) {
+        return close_full(image, table, allowed);
     }
-    repair(t, image, lists, &mut room, allowed)
+    repair(t, image, table, &mut room, allowed)
 }
 
 // Stage 1 on the lists as they were scanned, then stages 3 and 4.
-fn from_order(t: &[u32; 324], image: &mut [u8], lists: Table, allowed: u64) -> Went
-    requires { ⌜ (now t ≡ crcTable) × Holds lists (pages (now image)) (frees (now image)) × (sectorsOf (now image) ≤ 16) ⌝ }
+fn from_order(t: &CrcTable, image: &mut [u8], table: Table, allowed: u64) -> Went
+    requires { ⌜ (now t ≡ crcTable) × Holds table (pages (now image)) (frees (now image)) × (sectorsOf (now image) ≤ 16) ⌝ }
     ensures { λ r. ⌜ Made (fromOrder (pages (now (image .entry))) (now (image .entry))) allowed (now (image .entry)) (now (image .exit)) r ⌝ }
 {
-    let r = order::order_pages(image, lists, allowed);
+    let r = order::order_pages(image, table, allowed);
     let ran = r.ran;
     let Ran::Done(left) = ran else {
         return Went::Short(Stage::Order);
     };
-    last_stages(t, image, r.lists, left)
+    last_stages(t, image, r.table, left)
 }
 
 // Stage 2, `count` rounds of it, then the scan and stage 1 again.
-fn from_finish(t: &[u32; 324], image: &mut [u8], lists: Table, count: usize, allowed: u64) -> Went
-    requires { ⌜ (now t ≡ crcTable) × Sized lists × Placed (sectorsOf (now image)) (listed lists) (freed lists) × (count ≡ freeings (listed lists)) × (greatest sequence (listed lists) + count ≤ 0xFFFF_FFFE) × (length (now image) ≡ sectorsOf (now image) * 4096) × (sectorsOf (now image) ≤ 16) ⌝ }
-    ensures { λ r. ⌜ Made (fromFinish (listed lists) (freed lists) (now (image .entry))) allowed (now (image .entry)) (now (image .exit)) r ⌝ }
+fn from_finish(t: &CrcTable, image: &mut [u8], table: Table, count: usize, allowed: u64) -> Went
+    requires { ⌜ (now t ≡ crcTable) × Sized table × PagesPlaced (sectorsOf (now image)) (listed table) (freed table) × (count ≡ freeings (listed table)) × (greatest sequence (listed table) + count ≤ 0xFFFF_FFFE) × (length (now image) ≡ sectorsOf (now image) * 4096) × (sectorsOf (now image) ≤ 16) ⌝ }
+    ensures { λ r. ⌜ Made (fromFinish (listed table) (freed table) (now (image .entry))) allowed (now (image .entry)) (now (image .exit)) r ⌝ }
 {
-    let r = finishing::finish_all(t, image, lists, count, allowed);
+    let r = finishing::finish_all(t, image, table, count, allowed);
     let Went::Ended(left) = r else {
         return r;
     };
-    let sectors = image.len() / 4096;
+    let sectors = image.len() / SECTOR_BYTES;
     let again = table::scan(t, image, sectors);
     from_order(t, image, again, left)
 }
 
-// All stages, where `lists` are what the scan found.
-pub fn make_stages(t: &[u32; 324], image: &mut [u8], lists: Table, allowed: u64) -> Went
-    requires { ⌜ (now t ≡ crcTable) × Holds lists (pages (now image)) (frees (now image)) × (length (now image) ≡ sectorsOf (now image) * 4096) × (sectorsOf (now image) ≤ 16) × (tooHigh (pages (now image)) ≡ false) ⌝ }
+// All stages, where `table` is what the scan found.
+pub fn make_stages(t: &CrcTable, image: &mut [u8], table: Table, allowed: u64) -> Went
+    requires { ⌜ (now t ≡ crcTable) × Holds table (pages (now image)) (frees (now image)) × (length (now image) ≡ sectorsOf (now image) * 4096) × (sectorsOf (now image) ≤ 16) × (tooHigh (pages (now image)) ≡ false) ⌝ }
     ensures { λ r. ⌜ Made (recovering (now (image .entry))) allowed (now (image .entry)) (now (image .exit)) r ⌝ }
 {
-    let r = order::order_pages(image, lists, allowed);
+    let r = order::order_pages(image, table, allowed);
     let ran = r.ran;
     let Ran::Done(left) = ran else {
         return Went::Short(Stage::Order);
     };
-    let count = finishing::count_freeing(r.lists);
+    let count = finishing::count_freeing(r.table);
     if count == 0 {
-        return last_stages(t, image, r.lists, left);
+        return last_stages(t, image, r.table, left);
     }
-    from_finish(t, image, r.lists, count, left)
+    from_finish(t, image, r.table, count, left)
 }

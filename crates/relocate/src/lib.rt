@@ -1,5 +1,8 @@
 // Move a page: its items are copied to a fresh sector, and only then is it erased. Wherever the steps are cut, one of the two has all the items.
+use crc::CrcTable;
 use flash::Ran;
+use layout::PAGE_ENTRIES;
+use layout::SECTOR_BYTES;
 use page::Reading;
 ghost use mathlib.Core.Path.{_≡_};
 ghost use Prim.Native.Nat.{_+_, _*_, _≤_};
@@ -11,22 +14,22 @@ ghost use Rattle.flash.specs.Did.{Did};
 ghost use Rattle.relocate.specs.Move.{copies, moving};
 
 // Copies the items of sector `s` in walk order into sector `target`, from its first entry on.
-fn copy_items(t: &[u32; 324], image: &mut [u8], s: usize, target: usize, allowed: u64) -> Ran
+fn copy_items(t: &CrcTable, image: &mut [u8], s: usize, target: usize, allowed: u64) -> Ran
     requires { ⌜ (now t ≡ crcTable) × (s * 4096 + 4096 ≤ length (now image)) × (target * 4096 + 4096 ≤ length (now image)) × (s ≡ target → ⊥) ⌝ }
     ensures { λ r. ⌜ Did (copies (target * 4096) 0 (walk (sector s (now (image .entry))) 126 0)) allowed (now (image .entry)) (now (image .exit)) r ⌝ }
 {
-    let a = s * 4096;
-    let e = a + 4096;
+    let a = s * SECTOR_BYTES;
+    let e = a + SECTOR_BYTES;
     let mut left = allowed;
     let mut i: usize = 0;
     let mut j: usize = 0;
-    while i < 126 {
+    while i < PAGE_ENTRIES {
         let Reading::Item(header) = page::read_entry(t, &image[a..e], i) else {
             i += 1;
             continue;
         };
         let n = header.span;
-        let r = item::copy_item(image, a, i, target * 4096, j, n, left);
+        let r = item::copy_item(image, a, i, target * SECTOR_BYTES, j, n, left);
         let Ran::Done(rest) = r else {
             return Ran::Stopped;
         };
@@ -39,7 +42,7 @@ fn copy_items(t: &[u32; 324], image: &mut [u8], s: usize, target: usize, allowed
 
 // Moves the page in sector `s` to the sector `target`, which becomes a page with sequence `q`. `t` is the CRC's table.
 pub fn move_page(
-    t: &[u32; 324],
+    t: &CrcTable,
     image: &mut [u8],
     s: usize,
     target: usize,

@@ -1,7 +1,7 @@
 // The answer to op 2: what the item reader hands out.
 use crate::bytes::put_byte;
 use crate::bytes::put_four;
-use reader::Found;
+use reader::Handed;
 ghost use mathlib.Core.Path.{_≡_};
 ghost use Prim.Native.Nat.{_+_, _*_, _<_, _≤_};
 ghost use lib.ListN.{length};
@@ -35,13 +35,13 @@ fn put_items(sector: &[u8], out: &mut [u8]) -> usize
     let mut count: usize = 0;
     let mut at = reader::begins_at(sector);
     while count < 126 {
-        let step = reader::read_on(sector, at);
-        let found = step.found;
-        let Found::Item(item) = found else {
+        let read = reader::read_on(sector, at);
+        let handed = read.handed;
+        let Handed::Item(item) = handed else {
             return count;
         };
         put_item(sector, item.entry, out, 5 + count * 36);
-        at = step.next;
+        at = read.next;
         count += 1;
     }
     count
@@ -52,9 +52,9 @@ pub fn answer(sector: &[u8], out: &mut [u8]) -> usize
     requires { ⌜ length (now out) ≡ 4541 ⌝ }
     ensures { λ r. ⌜ r ≤ 4541 ⌝ }
 {
-    let step = reader::read_from(sector, 0);
-    let found = step.found;
-    put_byte(out, 0, reader::result(found));
+    let read = reader::read_from(sector, 0);
+    let handed = read.handed;
+    put_byte(out, 0, reader::result(handed));
     if sector.len() != 4096 {
         put_four(out, 1, 0);
         return 5;

@@ -16,7 +16,7 @@ use Rattle.lists.proofs.Sums.{sum-ge, sum-append, greatest-ge, greatest-lt}
 use Rattle.lists.proofs.Out.{sum-dropLast, sum-out, out-in}
 use Rattle.table.specs.declared.Page.{Page}
 use Rattle.table.specs.Table.{inSector, sectorsOf, sequence, asFull}
-use Rattle.table.specs.Placed.{timesIn, Placed}
+use Rattle.table.specs.PagesPlaced.{timesIn, PagesPlaced}
 
 -- an element of the front of an array is a member of it
 pub in-front : {A : Type 0} (xs : List A) (k i : ℕ) (d : A) → k ≤ length xs → i < k → getD xs i d ∈ take k xs
@@ -87,7 +87,7 @@ below-one u n h = go (ltb u n) refl h
     go true e k = ltb-true u n e
     go false e k = absurd (omega arith)
 
-module _ {n : ℕ} {ps : List Page} {fs : List ℕ} (h : Placed n ps fs) where
+module _ {n : ℕ} {ps : List Page} {fs : List ℕ} (h : PagesPlaced n ps fs) where
   pub page-below : (p : Page) → p ∈ ps → p .sector < n
   unfolding timesIn
   page-below p m =
@@ -122,7 +122,7 @@ module _ {n : ℕ} {ps : List Page} {fs : List ℕ} (h : Placed n ps fs) where
       sum-out (inSector (p .sector)) f ps p m e (λ y k g. only (inSector (p .sector)) ps p y (omega (arith, h .once (p .sector))) m e k g)
 
 -- the source apart from the rest of the list, which it was taken out of
-pub apart-placed : {n : ℕ} {ps : List Page} {fs : List ℕ} (x : Page) → Placed n ps fs → x ∈ ps → Placed n (x ∷ takeOut (inSector (x .sector)) ps) fs
+pub apart-placed : {n : ℕ} {ps : List Page} {fs : List ℕ} (x : Page) → PagesPlaced n ps fs → x ∈ ps → PagesPlaced n (x ∷ takeOut (inSector (x .sector)) ps) fs
 unfolding timesIn sumOf
 apart-placed {n} {ps} {fs} x h m =
     record {
@@ -131,12 +131,12 @@ apart-placed {n} {ps} {fs} x h m =
     }
 
 -- the list without the source
-pub rest-placed : {n : ℕ} {ps : List Page} {fs : List ℕ} (x : Page) → Placed n (x ∷ ps) fs → Placed n ps fs
+pub rest-placed : {n : ℕ} {ps : List Page} {fs : List ℕ} (x : Page) → PagesPlaced n (x ∷ ps) fs → PagesPlaced n ps fs
 unfolding timesIn sumOf
 rest-placed x h = record { once = λ u. let a = h .once u in omega arith; sixteen = omega (arith, h .sixteen) }
 
 -- beside the source, a page that is taken out joins the free sectors
-pub freed-placed : {n : ℕ} {ps : List Page} {fs : List ℕ} (x y : Page) → Placed n (x ∷ ps) fs → y ∈ ps → Placed n (x ∷ takeOut (inSector (y .sector)) ps) (fs ++ (y .sector ∷ []))
+pub freed-placed : {n : ℕ} {ps : List Page} {fs : List ℕ} (x y : Page) → PagesPlaced n (x ∷ ps) fs → y ∈ ps → PagesPlaced n (x ∷ takeOut (inSector (y .sector)) ps) (fs ++ (y .sector ∷ []))
 unfolding timesIn sumOf
 freed-placed {n} {ps} {fs} x y h m =
     let r = rest-placed x h in
@@ -155,7 +155,7 @@ freed-placed {n} {ps} {fs} x y h m =
     }
 
 -- the source joins the free sectors
-pub source-placed : {n : ℕ} {ps : List Page} {fs : List ℕ} (x : Page) → Placed n (x ∷ ps) fs → Placed n ps (fs ++ (x .sector ∷ []))
+pub source-placed : {n : ℕ} {ps : List Page} {fs : List ℕ} (x : Page) → PagesPlaced n (x ∷ ps) fs → PagesPlaced n ps (fs ++ (x .sector ∷ []))
 unfolding timesIn sumOf
 source-placed {n} {ps} {fs} x h =
     record {
@@ -164,7 +164,7 @@ source-placed {n} {ps} {fs} x h =
     }
 
 -- it goes to the last of them, where a page stands then
-pub moved-placed : {n : ℕ} {ps : List Page} {fs : List ℕ} (x p : Page) → Placed n (x ∷ ps) fs → getLast? fs ≡ some (p .sector) → Placed n (ps ++ (p ∷ [])) (dropLast fs ++ (x .sector ∷ []))
+pub moved-placed : {n : ℕ} {ps : List Page} {fs : List ℕ} (x p : Page) → PagesPlaced n (x ∷ ps) fs → getLast? fs ≡ some (p .sector) → PagesPlaced n (ps ++ (p ∷ [])) (dropLast fs ++ (x .sector ∷ []))
 unfolding timesIn sumOf
 moved-placed {n} {ps} {fs} x p h e =
     record {
@@ -184,12 +184,12 @@ moved-placed {n} {ps} {fs} x p h e =
     }
 
 -- it counts as Full, where it stood
-pub full-placed : {n : ℕ} {ps : List Page} {fs : List ℕ} (x : Page) → Placed n (x ∷ ps) fs → Placed n (asFull x ∷ ps) fs
+pub full-placed : {n : ℕ} {ps : List Page} {fs : List ℕ} (x : Page) → PagesPlaced n (x ∷ ps) fs → PagesPlaced n (asFull x ∷ ps) fs
 unfolding timesIn sumOf
 full-placed x h = record { once = h .once; sixteen = h .sixteen }
 
 -- a page is taken out
-pub out-placed : {n : ℕ} {ps : List Page} {fs : List ℕ} (p : Page → Bool) → Placed n ps fs → Placed n (takeOut p ps) fs
+pub out-placed : {n : ℕ} {ps : List Page} {fs : List ℕ} (p : Page → Bool) → PagesPlaced n ps fs → PagesPlaced n (takeOut p ps) fs
 unfolding timesIn
 out-placed {n} {ps} {fs} p h =
     record {
@@ -198,10 +198,10 @@ out-placed {n} {ps} {fs} p h =
     }
 
 -- its sector lies in an image of the same length
-pub page-fits : {ps : List Page} {fs : List ℕ} (l m : List ℕ) → Placed (sectorsOf l) ps fs → length m ≡ length l → (p : Page) → p ∈ ps → p .sector * 4096 + 4096 ≤ length m
+pub page-fits : {ps : List Page} {fs : List ℕ} (l m : List ℕ) → PagesPlaced (sectorsOf l) ps fs → length m ≡ length l → (p : Page) → p ∈ ps → p .sector * 4096 + 4096 ≤ length m
 page-fits l m h e p i = let b = page-below h p i in omega arith
 
-pub free-fits : {ps : List Page} {fs : List ℕ} (l m : List ℕ) → Placed (sectorsOf l) ps fs → length m ≡ length l → (s : ℕ) → s ∈ fs → s * 4096 + 4096 ≤ length m
+pub free-fits : {ps : List Page} {fs : List ℕ} (l m : List ℕ) → PagesPlaced (sectorsOf l) ps fs → length m ≡ length l → (s : ℕ) → s ∈ fs → s * 4096 + 4096 ≤ length m
 free-fits l m h e s i = let b = free-below h s i in omega arith
 
 -- a list without a page has no greater sequence

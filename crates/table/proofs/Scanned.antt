@@ -16,7 +16,7 @@ use Rattle.lists.specs.Lists.{sumOf}
 use Rattle.lists.proofs.Sums.{sum-append}
 use Rattle.table.specs.declared.Page.{Page}
 use Rattle.table.specs.Table.{sectorsOf, pageAt, pagesTo, freesTo, pages, frees, inSector}
-use Rattle.table.specs.Placed.{timesIn, Placed}
+use Rattle.table.specs.PagesPlaced.{timesIn, PagesPlaced}
 
 -- one sector more
 below-more : (u n : ℕ) → one (ltb u n) + one (eqb n u) ≤ one (ltb u (suc n))
@@ -56,6 +56,6 @@ module _ (l : List ℕ) where
       go true h = let a = length-append (pagesTo l n) [] in let b = length-append (freesTo l n) (n ∷ []) in omega arith
       go false h = let a = length-append (pagesTo l n) (pageAt n l ∷ []) in let b = length-append (freesTo l n) [] in omega arith
 
-  pub pages-placed : sectorsOf l ≤ 16 → Placed (sectorsOf l) (pages l) (frees l)
+  pub pages-placed : sectorsOf l ≤ 16 → PagesPlaced (sectorsOf l) (pages l) (frees l)
   unfolding pages frees
   pages-placed h = record { once = λ u. times-to u (sectorsOf l); sixteen = omega (arith, length-to (sectorsOf l)) }

@@ -12,7 +12,7 @@ use Rattle.lists.proofs.Member.{_∈_, none≢some}
 use Rattle.page.specs.declared.state.PageState.{PageState}
 use Rattle.page.specs.declared.state.PageState.the-variants.{Blank, Corrupt, Active, Full, Freeing}
 use Rattle.table.specs.declared.Page.{Page}
-use Rattle.table.specs.declared.Sought.the-variants.{Found, Nothing}
+use Rattle.table.specs.declared.Sought.the-variants.{One, Nothing}
 use Rattle.table.specs.Table.{active, freeing, activePage, freeingPage}
 use Rattle.table.specs.Sought.{soughtOf, betterOf, betterAmong, codeOf, inState}
 
@@ -55,7 +55,7 @@ pub freeing-is : (p : Page) → inState Freeing p ≡ freeingPage p
 freeing-is p = codes (p .seen .state) .1
 
 -- what an answer says of what was sought
-pub sought-found : (o : Option Page) (p : Page) → Found p ≡ soughtOf o → o ≡ some p
+pub sought-found : (o : Option Page) (p : Page) → One p ≡ soughtOf o → o ≡ some p
 sought-found none p e = absurd (let z : _≡_ {A = ℕ} 0 1 = cc in omega arith)
 sought-found (some q) p e = cc
 
@@ -64,7 +64,7 @@ sought-nothing none e = refl
 sought-nothing (some q) e = absurd (let z : _≡_ {A = ℕ} 0 1 = cc in omega arith)
 
 module _ (over : Page → Page → Bool) where
-  either : (b : Bool) (x y : Page) → cond b (Found y) (Found x) ≡ soughtOf (some (cond b y x))
+  either : (b : Bool) (x y : Page) → cond b (One y) (One x) ≡ soughtOf (some (cond b y x))
   either true x y = refl
   either false x y = refl
 

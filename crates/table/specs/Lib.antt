@@ -1,3 +1,3 @@
 pub mod Table
 pub mod Sought
-pub mod Placed
+pub mod PagesPlaced

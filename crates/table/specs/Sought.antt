@@ -7,16 +7,16 @@ use Rattle.page.specs.declared.state.PageState.{PageState}
 use Rattle.page.specs.declared.state.PageState.the-variants.{Blank, Corrupt, Active, Full, Freeing}
 use Rattle.table.specs.declared.Page.{Page}
 use Rattle.table.specs.declared.Sought.{Sought}
-use Rattle.table.specs.declared.Sought.the-variants.{Found, Nothing}
+use Rattle.table.specs.declared.Sought.the-variants.{One, Nothing}
 
 abbrev pub soughtOf : Option Page → Sought
 soughtOf none = Nothing
-soughtOf (some p) = Found p
+soughtOf (some p) = One p
 
 -- one page more, in front: `over y x` says that y, which stands later, goes before x
 abbrev pub betterOf : (Page → Page → Bool) → Page → Sought → Sought
-betterOf over x Nothing = Found x
-betterOf over x (Found y) = cond (over y x) (Found y) (Found x)
+betterOf over x Nothing = One x
+betterOf over x (One y) = cond (over y x) (One y) (One x)
 
 -- the same among the pages that pass
 unfoldable pub betterAmong : (Page → Bool) → (Page → Page → Bool) → Page → Sought → Sought

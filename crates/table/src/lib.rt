@@ -1,4 +1,7 @@
 // The page table: what the scan finds, by value.
+use crc::CrcTable;
+use layout::MOST_SECTORS;
+use layout::SECTOR_BYTES;
 use page::PageRecord;
 use page::PageState;
 ghost use mathlib.Core.Path.{_≡_};
@@ -18,9 +21,9 @@ pub struct Page {
 
 // The page list and the free list of an image of at most 16 sectors.
 pub struct Table {
-    pub pages: [Page; 16],
+    pub pages: [Page; MOST_SECTORS],
     pub count: usize,
-    pub free: [u8; 16],
+    pub free: [u8; MOST_SECTORS],
     pub free_count: usize,
 }
 
@@ -52,18 +55,18 @@ fn no_page() -> Page {
 }
 
 // The scan: it only reads.
-pub fn scan(t: &[u32; 324], image: &[u8], sectors: usize) -> Table
+pub fn scan(t: &CrcTable, image: &[u8], sectors: usize) -> Table
     requires { ⌜ (now t ≡ crcTable) × (length (now image) ≡ sectors * 4096) × (sectors ≤ 16) ⌝ }
     ensures { λ r. ⌜ Holds r (pages (now (image .entry))) (frees (now (image .entry))) ⌝ }
 {
-    let mut list = [no_page(); 16];
+    let mut list = [no_page(); MOST_SECTORS];
     let mut count: usize = 0;
-    let mut free = [0u8; 16];
+    let mut free = [0u8; MOST_SECTORS];
     let mut free_count: usize = 0;
     let mut n: usize = 0;
     while n < sectors {
-        let a = n * 4096;
-        let e = a + 4096;
+        let a = n * SECTOR_BYTES;
+        let e = a + SECTOR_BYTES;
         let seen = page::page_record(t, &image[a..e]);
         let state = seen.state;
         if page::is_free(state) {
@@ -91,14 +94,14 @@ pub fn scan(t: &[u32; 324], image: &[u8], sectors: usize) -> Table
 pub fn is_whole(image: &[u8]) -> bool
     ensures { λ r. ⌜ r ≡ wholeSectors (now (image .entry)) ⌝ }
 {
-    if image.len() % 4096 != 0 {
+    if image.len() % SECTOR_BYTES != 0 {
         return false;
     }
-    let sectors = image.len() / 4096;
+    let sectors = image.len() / SECTOR_BYTES;
     if sectors < 2 {
         return false;
     }
-    sectors <= 16
+    sectors <= MOST_SECTORS
 }
 
 pub fn larger(a: u32, b: u32) -> u32
@@ -108,15 +111,15 @@ pub fn larger(a: u32, b: u32) -> u32
 }
 
 // The greatest sequence of the list, 0 where there is no page.
-pub fn greatest_sequence(t: Table) -> u32
-    requires { ⌜ Sized t ⌝ }
-    ensures { λ r. ⌜ r ≡ greatest sequence (listed t) ⌝ }
+pub fn greatest_sequence(table: Table) -> u32
+    requires { ⌜ Sized table ⌝ }
+    ensures { λ r. ⌜ r ≡ greatest sequence (listed table) ⌝ }
 {
     let mut g: u32 = 0;
-    let mut i = t.count;
+    let mut i = table.count;
     while 0 < i {
         i -= 1;
-        let p = t.pages[i];
+        let p = table.pages[i];
         let seen = p.seen;
         g = larger(seen.sequence, g);
     }
@@ -124,14 +127,14 @@ pub fn greatest_sequence(t: Table) -> u32
 }
 
 // Whether a page of the list is Active.
-pub fn any_active(t: Table) -> bool
-    requires { ⌜ Sized t ⌝ }
-    ensures { λ r. ⌜ r ≡ some-of activePage (listed t) ⌝ }
+pub fn any_active(table: Table) -> bool
+    requires { ⌜ Sized table ⌝ }
+    ensures { λ r. ⌜ r ≡ some-of activePage (listed table) ⌝ }
 {
-    let count = t.count;
+    let count = table.count;
     let mut i: usize = 0;
     while i < count {
-        let p = t.pages[i];
+        let p = table.pages[i];
         let seen = p.seen;
         let state = seen.state;
         if is_active(state) {
@@ -161,23 +164,23 @@ pub fn as_full(p: Page) -> Page
 }
 
 // The list without the first page in `sector`: the last of the list takes its place.
-pub fn take_out(t: Table, sector: u8) -> Table
-    requires { ⌜ Sized t ⌝ }
-    ensures { λ r. ⌜ Holds r (takeOut (inSector sector) (listed t)) (freed t) × (r .count ≡ t .count - 1) ⌝ }
+pub fn take_out(table: Table, sector: u8) -> Table
+    requires { ⌜ Sized table ⌝ }
+    ensures { λ r. ⌜ Holds r (takeOut (inSector sector) (listed table)) (freed table) × (r .count ≡ table .count - 1) ⌝ }
 {
-    if t.count == 0 {
-        return t;
+    if table.count == 0 {
+        return table;
     }
-    let last = t.count - 1;
-    let z = t.pages[last];
-    let mut out = t;
+    let last = table.count - 1;
+    let z = table.pages[last];
+    let mut out = table;
     out.count = last;
     if z.sector == sector {
         return out;
     }
     let mut i: usize = 0;
     while i < last {
-        let p = t.pages[i];
+        let p = table.pages[i];
         if p.sector == sector {
             out.pages[i] = z;
             return out;
@@ -188,11 +191,11 @@ pub fn take_out(t: Table, sector: u8) -> Table
 }
 
 // The list with a page more at its end.
-pub fn append_page(t: Table, p: Page) -> Table
-    requires { ⌜ Sized t × (t .count < 16) ⌝ }
-    ensures { λ r. ⌜ Holds r (listed t ++ (p ∷ [])) (freed t) ⌝ }
+pub fn append_page(table: Table, p: Page) -> Table
+    requires { ⌜ Sized table × (table .count < 16) ⌝ }
+    ensures { λ r. ⌜ Holds r (listed table ++ (p ∷ [])) (freed table) ⌝ }
 {
-    let mut out = t;
+    let mut out = table;
     let n = out.count;
     out.pages[n] = p;
     out.count = n + 1;
@@ -201,7 +204,7 @@ pub fn append_page(t: Table, p: Page) -> Table
 
 // A page that is sought in the list.
 pub enum Sought {
-    Found(Page),
+    One(Page),
     Nothing,
 }
 
@@ -219,19 +222,19 @@ fn code_of(state: PageState) -> u8
 }
 
 // The first page of the list in the state `wanted`.
-pub fn first_in(t: Table, wanted: PageState) -> Sought
-    requires { ⌜ Sized t ⌝ }
-    ensures { λ r. ⌜ r ≡ soughtOf (firstOf (inState wanted) (listed t)) ⌝ }
+pub fn first_in(table: Table, wanted: PageState) -> Sought
+    requires { ⌜ Sized table ⌝ }
+    ensures { λ r. ⌜ r ≡ soughtOf (firstOf (inState wanted) (listed table)) ⌝ }
 {
     let code = code_of(wanted);
-    let count = t.count;
+    let count = table.count;
     let mut i: usize = 0;
     while i < count {
-        let p = t.pages[i];
+        let p = table.pages[i];
         let seen = p.seen;
         let state = seen.state;
         if code_of(state) == code {
-            return Sought::Found(p);
+            return Sought::One(p);
         }
         i += 1;
     }
@@ -239,17 +242,17 @@ pub fn first_in(t: Table, wanted: PageState) -> Sought
 }
 
 // The list with a page more at its front: each page moves on by one place.
-pub fn prepend_page(t: Table, p: Page) -> Table
-    requires { ⌜ Sized t × (t .count < 16) ⌝ }
-    ensures { λ r. ⌜ Holds r (p ∷ listed t) (freed t) ⌝ }
+pub fn prepend_page(table: Table, p: Page) -> Table
+    requires { ⌜ Sized table × (table .count < 16) ⌝ }
+    ensures { λ r. ⌜ Holds r (p ∷ listed table) (freed table) ⌝ }
 {
-    let count = t.count;
-    let mut out = t;
+    let count = table.count;
+    let mut out = table;
     let mut carried = p;
     let mut i: usize = 0;
     while i < count {
         out.pages[i] = carried;
-        carried = t.pages[i];
+        carried = table.pages[i];
         i += 1;
     }
     out.pages[count] = carried;
@@ -258,11 +261,11 @@ pub fn prepend_page(t: Table, p: Page) -> Table
 }
 
 // The free list with a sector more at its end.
-pub fn join_free(t: Table, sector: u8) -> Table
-    requires { ⌜ Sized t × (t .«free_count» < 16) ⌝ }
-    ensures { λ r. ⌜ Holds r (listed t) (freed t ++ (sector ∷ [])) × (r .count ≡ t .count) ⌝ }
+pub fn join_free(table: Table, sector: u8) -> Table
+    requires { ⌜ Sized table × (table .«free_count» < 16) ⌝ }
+    ensures { λ r. ⌜ Holds r (listed table) (freed table ++ (sector ∷ [])) × (r .count ≡ table .count) ⌝ }
 {
-    let mut out = t;
+    let mut out = table;
     let n = out.free_count;
     out.free[n] = sector;
     out.free_count = n + 1;
@@ -270,11 +273,11 @@ pub fn join_free(t: Table, sector: u8) -> Table
 }
 
 // The free list without its last sector.
-pub fn drop_free(t: Table) -> Table
-    requires { ⌜ Sized t × (0 < t .«free_count») ⌝ }
-    ensures { λ r. ⌜ Holds r (listed t) (dropLast (freed t)) × (r .count ≡ t .count) × (r .«free_count» < 16) ⌝ }
+pub fn drop_free(table: Table) -> Table
+    requires { ⌜ Sized table × (0 < table .«free_count») ⌝ }
+    ensures { λ r. ⌜ Holds r (listed table) (dropLast (freed table)) × (r .count ≡ table .count) × (r .«free_count» < 16) ⌝ }
 {
-    let mut out = t;
+    let mut out = table;
     out.free_count = out.free_count - 1;
     out
 }

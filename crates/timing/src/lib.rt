@@ -1,6 +1,9 @@
 // C names for the benchmark and the cuts: the proved code as it stands, on plain slices. Nothing here is offered to users.
 use answer::Answer;
-use reader::Found;
+use layout::MOST_SECTORS;
+use layout::PAGE_ENTRIES;
+use layout::SECTOR_BYTES;
+use reader::Handed;
 ghost use mathlib.Core.Path.{_≡_};
 ghost use Prim.Native.Nat.{_≤_};
 ghost use lib.ListN.{length};
@@ -8,11 +11,11 @@ ghost use lib.ListN.{length};
 // How many items one walk of a whole sector meets.
 #[no_mangle]
 pub extern "C" fn timing_walk(sector: &[u8]) -> usize {
-    if sector.len() != 4096 {
+    if sector.len() != SECTOR_BYTES {
         return 0;
     }
     let t = crc::table();
-    let mut out = [0u16; 126];
+    let mut out = [0u16; PAGE_ENTRIES];
     page::places(&t, sector, 0, &mut out, 0)
 }
 
@@ -21,13 +24,13 @@ pub extern "C" fn timing_walk(sector: &[u8]) -> usize {
 pub extern "C" fn timing_reader(sector: &[u8]) -> usize {
     let mut count: usize = 0;
     let mut at = reader::begins_at(sector);
-    while count < 126 {
-        let step = reader::read_on(sector, at);
-        let found = step.found;
-        let Found::Item(_) = found else {
+    while count < PAGE_ENTRIES {
+        let read = reader::read_on(sector, at);
+        let handed = read.handed;
+        let Handed::Item(_) = handed else {
             return count;
         };
-        at = step.next;
+        at = read.next;
         count += 1;
     }
     count
@@ -42,7 +45,7 @@ pub extern "C" fn timing_reclaim(image: &mut [u8], allowance: u64) -> u64 {
 // How many steps one recovery of an image makes.
 #[no_mangle]
 pub extern "C" fn timing_recover(image: &mut [u8], allowance: u64) -> u64 {
-    let made = recover::recover_image(image, 16, allowance);
+    let made = recover::recover_image(image, MOST_SECTORS, allowance);
     let answer = made.answer;
     answer::steps(answer)
 }
@@ -61,7 +64,7 @@ pub extern "C" fn timing_reclaim_answer(image: &mut [u8], allowance: u64) -> u64
 // What one recovery of an image answers.
 #[no_mangle]
 pub extern "C" fn timing_recover_answer(image: &mut [u8], allowance: u64) -> u64 {
-    let made = recover::recover_image(image, 16, allowance);
+    let made = recover::recover_image(image, MOST_SECTORS, allowance);
     let answer = made.answer;
     packed(answer)
 }

@@ -1,7 +1,7 @@
 -- `order::close_all` meets its contract: the pages passed are closed. Assumes nothing.
 use mathlib.Core.List.{map}
 use lib.ListN.{length-set}
-use Rattle.order.specs.Turns.{closed}
+use Rattle.order.specs.Turns.{closedPage}
 use Rattle.order.proofs.Turns.{closed-more}
 use mathlib.Core.Path.{_≡_, refl, sym, ap, _∙_}
 use Prim.Native.Nat.{ℕ, _-_, _<_, _≤_}
@@ -12,7 +12,7 @@ use Rattle.order.proofs.close_all.Statement.{statement}
 use Rattle.order.proofs.close_all.Tie as tie
 
 abbrev Inv-loop : tie.InvT-loop
-Inv-loop t count out₀ i₀ out i = (i ≤ t .count) × (length (out .pages) ≡ length (t .pages)) × (out .count ≡ t .count) × (out .free ≡ t .free) × (out .«free_count» ≡ t .«free_count») × (take i (out .pages) ≡ map closed (take i (t .pages)))
+Inv-loop t count out₀ i₀ out i = (i ≤ t .count) × (length (out .pages) ≡ length (t .pages)) × (out .count ≡ t .count) × (out .free ≡ t .free) × (out .«free_count» ≡ t .«free_count») × (take i (out .pages) ≡ map closedPage (take i (t .pages)))
 
 abbrev μ-loop : tie.MeasureT-loop
 μ-loop t count out₀ i₀ out i = t .count - i
@@ -43,7 +43,7 @@ returns c =
     let e : v .i ≡ t .count = omega arith in (
       record {
         sized = record { list = omega arith; free = omega (arith, ap length (v .inv .3)); sixteen = v .inv .1 ∙ a .pre .sixteen; sixteen-free = ap length (v .inv .3) ∙ a .pre .sixteen-free };
-        list = ap (λ (k : ℕ). take k (v .out .pages)) (v .inv .2 ∙ sym e) ∙ v .inv .5 ∙ ap (λ (k : ℕ). map closed (take k (t .pages))) e;
+        list = ap (λ (k : ℕ). take k (v .out .pages)) (v .inv .2 ∙ sym e) ∙ v .inv .5 ∙ ap (λ (k : ℕ). map closedPage (take k (t .pages))) e;
         free = rw (v .inv .3, v .inv .4);
       },
       v .inv .2,

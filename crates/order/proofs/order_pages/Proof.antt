@@ -16,11 +16,11 @@ returns : tie.Need-returns
 unfolding ordering orderSteps ordered orderList
 returns c =
     let k = c .before .before in
-    let e = sought-nothing (kept (listed (k .before .before .args .t))) (sym (c .enum-told .given .1) ∙ k .kept-page .ensures) in
+    let e = sought-nothing (kept (listed (k .before .before .args .table))) (sym (c .enum-told .given .1) ∙ k .kept-page .ensures) in
     (rw e (did-none _ _), record { sized = k .before .before .pre .0; list = rw e; free = refl })
 
 -- a page is kept
-found : (k : tie.After-known-told) → kept (listed (k .before .before .before .before .before .args .t)) ≡ some (k .before .a .given .0 .0)
+found : (k : tie.After-known-told) → kept (listed (k .before .before .before .before .before .args .table)) ≡ some (k .before .a .given .0 .0)
 found k = sought-found _ _ (sym (k .before .a .given .1) ∙ k .before .before .before .kept-page .ensures)
 
 make-marks-requires : tie.Need-make-marks-requires
@@ -29,7 +29,7 @@ make-marks-requires c κs =
     let s = k .before .before .before .before .before in
     let o = c .before .take-out .ensures .0 in
     let l = s .args .image .now in
-    (o .sized, rw (o .list, o .free) (out-placed _ (s .pre .1)), page-fits l l (s .pre .1) refl _ (kept-in (listed (s .args .t)) _ (found k)))
+    (o .sized, rw (o .list, o .free) (out-placed _ (s .pre .1)), page-fits l l (s .pre .1) refl _ (kept-in (listed (s .args .table)) _ (found k)))
 
 append-page-requires : tie.Need-append-page-requires
 append-page-requires c κs =
@@ -42,7 +42,7 @@ returns-2 c =
     let m = c .before .before .before .before .before in
     let out = m .before .before in
     let k = out .before in
-    let ps = listed (k .before .before .before .before .before .args .t) in
+    let ps = listed (k .before .before .before .before .before .args .table) in
     let o = out .take-out .ensures .0 in
     let closed = c .before .before .close-all .ensures .0 in (
       rw (ordering-is ps _ (found k)) (rw (o .list) at (m .make-marks .ensures)),

@@ -28,24 +28,31 @@ abbrev noPage : Page
 noPage = record { sector = 0; seen = record { state = Blank; sequence = 0; written = 0; erased = 0; empty = 0; illegal = 0 } }
 
 abbrev Inv-loop : tie.InvT-loop
-Inv-loop t image slots₀ lists count places₀ i₀ slots places i =
-    (i ≤ lists .count) × (length slots ≡ length slots₀) × (length places ≡ 126) × Leads slots image × SoFar slots image (drop i (listed lists)) (map placeOf (found (listed lists) image))
+Inv-loop t image slots₀ table count places₀ i₀ slots places i =
+    (i ≤ table .count) × (length slots ≡ length slots₀) × (length places ≡ 126) × Leads slots image × SoFar slots image (drop i (listed table)) (map placeOf (found (listed table) image))
 
 abbrev μ-loop : tie.MeasureT-loop
-μ-loop t image slots₀ lists count places₀ i₀ slots places i = lists .count - i
+μ-loop t image slots₀ table count places₀ i₀ slots places i = table .count - i
 
 -- the page of this turn lies in the image
-lies : (c : tie.After-p Inv-loop μ-loop) → let a = c .before .before .before .before .before .before .before .before .before .args in Lies (a .image .now) (getD (a .t3 .pages) (c .before .before .loop .i) noPage)
+lies : (c : tie.After-p Inv-loop μ-loop) →
+    let entered = c .before .before .before .before .before .before .before .before .before in
+    let a = entered .args in Lies (a .image .now) (getD (a .t3 .pages) (c .before .before .loop .i) noPage)
 lies c =
     let a = c .before .before .before .before .before .before .before .before .before in
     let t = a .args .t3 in
     each-front (Lies (a .args .image .now)) (t .pages) (t .count) noPage (a .pre .1 .list) (a .pre .2) (c .before .before .loop .i) (omega arith)
 
 -- the places stored are those on it
-stored : (c : tie.After-places2 Inv-loop μ-loop) → let a = c .before .before .before .before .before .before .before .before .before .before .before .before .before .args in take (c .places2 .result) (c .places2 .last .1 .1 .1 .0) ≡ placesOn (a .image .now) (getD (a .t3 .pages) (c .before .before .before .before .before .before .loop .i) noPage)
+stored : (c : tie.After-places2 Inv-loop μ-loop) →
+    let at-loop = c .before .before .before .before .before .before in
+    let entered = at-loop .before .before .before .before .before .before .before in
+    let a = entered .args in take (c .places2 .result) (c .places2 .last .1 .1 .1 .0) ≡ placesOn (a .image .now) (getD (a .t3 .pages) (at-loop .loop .i) noPage)
 stored c =
-    let a = c .before .before .before .before .before .before .before .before .before .before .before .before .before .args in
-    let u = getD (a .t3 .pages) (c .before .before .before .before .before .before .loop .i) noPage .sector in
+    let at-loop = c .before .before .before .before .before .before in
+    let entered = at-loop .before .before .before .before .before .before .before in
+    let a = entered .args in
+    let u = getD (a .t3 .pages) (at-loop .loop .i) noPage .sector in
     c .places2 .ensures .0 ∙ ap (λ (s : List ℕ). map (λ (x : Laid). u * 128 + 2 + x .entry) (walk s 126 0)) (lent-sector u (a .image .now))
 
 loop-holds : tie.Need-loop-holds Inv-loop μ-loop
@@ -71,11 +78,12 @@ add-places c = omega (arith, lies (c .before .before) .room)
 
 places-requires : tie.Need-places-requires Inv-loop μ-loop
 places-requires c κs =
+    let at-loop = c .before .before .before .before .before in
+    let a = at-loop .before .before .before .before .before .before .before in
     let q = lies (c .before .before .before) in
-    let a = c .before .before .before .before .before .before .before .before .before .before .before .before in
-    let u = getD (a .args .t3 .pages) (c .before .before .before .before .before .loop .i) noPage .sector in
+    let u = getD (a .args .t3 .pages) (at-loop .loop .i) noPage .sector in
     let size : length (take (u * 4096 + 4096 - u * 4096) (drop (u * 4096) (a .args .image .now))) ≡ 4096 = simp (length-take, length-drop) (omega (arith, q .room)) in
-    (a .pre .0, size, omega (arith, q .sixteen), omega (arith, c .before .before .before .before .before .loop .inv .2))
+    (a .pre .0, size, omega (arith, q .sixteen), omega (arith, at-loop .loop .inv .2))
 
 slice-aggregate-fill : tie.Need-slice-aggregate-fill Inv-loop μ-loop
 slice-aggregate-fill c = sym (length-take-le _ _ (omega arith))
@@ -94,21 +102,21 @@ loop-again c =
     let q = c .before .before .before .before .before .before .before in
     let l = q .before .before .before .before .before .before .loop in
     let a = q .before .before .before .before .before .before .before .before .before .before .before .before .before in
-    let lists = a .args .t3 in
+    let table = a .args .t3 in
     let image = a .args .image .now in
-    let p = getD (lists .pages) (l .i) noPage in
+    let p = getD (table .pages) (l .i) noPage in
     let filled = rw (stored q) at (c .before .before .before .fill .ensures (not-false _ (c .if1 .left))) in
-    let rest = element (lists .pages) (lists .count) (a .pre .1 .list) (l .i) noPage (omega arith) in
-    (omega arith, search needs, search needs, filled .leads, page-filled image p (l .slots) _ (drop (l .i + 1) (listed lists)) (map placeOf (found (listed lists) image)) filled (rw rest at (l .inv .4)))
+    let rest = element (table .pages) (table .count) (a .pre .1 .list) (l .i) noPage (omega arith) in
+    (omega arith, search needs, search needs, filled .leads, page-filled image p (l .slots) _ (drop (l .i + 1) (listed table)) (map placeOf (found (listed table) image)) filled (rw rest at (l .inv .4)))
 
 returns-2 : tie.Need-returns-2 Inv-loop μ-loop
 unfolding found flatMap
 returns-2 c =
-    let l = c .before .loop in
     let a = c .before .before .before .before .before .before .before .before in
+    let l = c .before .loop in
     let image = a .args .image .now in
-    let lists = a .args .t3 in
-    let end = listed-end (lists .pages) (lists .count) (a .pre .1 .list) (l .i) (c .loop-test .left) in
+    let table = a .args .t3 in
+    let end = listed-end (table .pages) (table .count) (a .pre .1 .list) (l .i) (c .loop-test .left) in
     let s = rw end at (l .inv .4) in
     λ e. (l .inv .3, rw (sym (s .2) ∙ append-nil (s .0)) (s .1))
 

@@ -22,7 +22,7 @@ returns c =
     let f = c .before .before .before .before .before in
     let a = f .before .before .before .before in
     let image = a .args .image .now in
-    let pages = listed (a .args .lists) in
+    let pages = listed (a .args .table) in
     let small : (j : ℕ) → getD image j 0 < 256 = λ j. omega (arith, f .before .before .before .shared-slice-known .given j) in
     λ e. rw (items-found image pages (a .pre .2)) at (calm-items _ image (map placeOf (found pages image)) small (f .fill-all .ensures (c .before .before .if1 .taken) .1) (c .all-fit .ensures e))
 

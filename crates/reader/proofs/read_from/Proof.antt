@@ -2,7 +2,7 @@
 -- Assumes nothing.
 use mathlib.Core.Path.{ap, _∙_}
 use native.Mathlib.Omega.{arith}
-use Rattle.reader.specs.Reader.{stepFrom}
+use Rattle.reader.specs.Reader.{readOn}
 use Rattle.reader.proofs.Begins.{first-for, same-from}
 use borrow.Author.Needs.{needs}
 use Rattle.reader.proofs.read_from.Statement.{statement}
@@ -14,7 +14,7 @@ returns c =
     let a = b .before .before .args in
     let s = a .sector .now in
     let first = b .begins-at .ensures in
-    c .read-on .ensures ∙ ap (stepFrom s) first ∙ first-for s (a .entry) (omega arith)
+    c .read-on .ensures ∙ ap (readOn s) first ∙ first-for s (a .entry) (omega arith)
 
 returns-2 : tie.Need-returns-2
 returns-2 c =

@@ -17,10 +17,12 @@ returns c = goes-stop _ (goes-start _ _ _) refl (c .before .before .before .befo
 returns-2 : tie.Need-returns-2
 unfolding planSteps itemsIn
 returns-2 c =
-    let p = c .before .before .before .before .before .before .before .before .before in
-    let a = c .before .before .before .before .before .before .before .before .before .before .before .before .args in
+    let at-r = c .before .before .before .before .before in
+    let p = at-r .before .before .before .before in
+    let entered = p .before .before .before in
+    let a = entered .args in
     goes-last
-    (goes-then (λ (m : List ℕ). moving (a .source) (a .target) (a .sequence) (itemsIn (a .source) m) m) (goes-start _ _ _) refl (p .mark-freeing .ensures) (c .before .before .before .before .before .r .given .1))
+    (goes-then (λ (m : List ℕ). moving (a .source) (a .target) (a .sequence) (itemsIn (a .source) m) m) (goes-start _ _ _) refl (p .mark-freeing .ensures) (at-r .r .given .1))
     (c .before .before .move-page .ensures)
 
 pub move-marked-spec : {M : Type 1} → statement M

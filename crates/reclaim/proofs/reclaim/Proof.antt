@@ -33,25 +33,34 @@ returns c =
 
 scan-requires : tie.Need-scan-requires
 scan-requires c κs =
-    let w = whole-is (c .before .before .before .before .before .before .before .args .image .now) (whole (c .before .before .before)) in
+    let entered = c .before .before .before .before .before .before .before in
+    let w = whole-is (entered .args .image .now) (whole (c .before .before .before)) in
     (search needs, w .0, w .1)
 
 erase-sector-requires : tie.Need-erase-sector-requires
 erase-sector-requires c κs =
-    let n = subst (Named (c .before .before .before .before .before .before .before .before .before .before .before .before .before .args .image .now)) (planned (c .before .before .before .before) ∙ c .before .before .plan2 .given .1) (named (c .before .before .before .before .before .before .before .before .before .before .before .before .before .args .image .now)) in
-    let w = whole-is (c .before .before .before .before .before .before .before .before .before .before .before .before .before .args .image .now) (whole (c .before .before .before .before .before .before .before .before .before)) in
+    let at-plan-of = c .before .before .before .before in
+    let at-if1 = at-plan-of .before .before .before .before .before in
+    let entered = at-if1 .before .before .before .before in
+    let n = subst (Named (entered .args .image .now)) (planned at-plan-of ∙ c .before .before .plan2 .given .1) (named (entered .args .image .now)) in
+    let w = whole-is (entered .args .image .now) (whole at-if1) in
     omega arith
 
 move-marked-requires : tie.Need-move-marked-requires
 move-marked-requires c κs =
-    let n = subst (Named (c .before .before .before .before .before .before .before .before .before .before .before .before .before .before .args .image .now)) (planned (c .before .before .before .before .before) ∙ c .before .before .before .plan3 .given .1) (named (c .before .before .before .before .before .before .before .before .before .before .before .before .before .before .args .image .now)) in
-    let w = whole-is (c .before .before .before .before .before .before .before .before .before .before .before .before .before .before .args .image .now) (whole (c .before .before .before .before .before .before .before .before .before .before)) in
+    let at-plan-of = c .before .before .before .before .before in
+    let at-if1 = at-plan-of .before .before .before .before .before in
+    let entered = at-if1 .before .before .before .before in
+    let n = subst (Named (entered .args .image .now)) (planned at-plan-of ∙ c .before .before .before .plan3 .given .1) (named (entered .args .image .now)) in
+    let w = whole-is (entered .args .image .now) (whole at-if1) in
     (search needs, omega arith, omega arith, n .2)
 
 returns-2 : tie.Need-returns-2
 returns-2 c =
-    let a = c .before .before .before .before .before .before .before .before .before .before .before .before .args in
-    promised-refusal (a .image .now) (a .allowance) _ (whole (c .before .before .before .before .before .before .before .before)) (planned (c .before .before .before) ∙ c .before .plan .given .1)
+    let at-if1 = c .before .before .before .before .before .before .before .before in
+    let entered = at-if1 .before .before .before .before in
+    let a = entered .args in
+    promised-refusal (a .image .now) (a .allowance) _ (whole at-if1) (planned (c .before .before .before) ∙ c .before .plan .given .1)
 
 same-length-3 : tie.Need-same-length-3
 same-length-3 c = ⊎-elim (λ x. search needs) (λ x. search needs) (c .before .before .match .came)

@@ -8,12 +8,12 @@ use Rattle.recover.proofs.is_too_high.Tie as tie
 
 returns : tie.Need-returns
 returns c =
-    let a = c .before .before .args .lists in
+    let a = c .before .before .args .table in
     sym (none-freeing (listed a) (sym (c .before .count-freeing .ensures .0) ∙ c .if1 .taken))
 
 returns-2 : tie.Need-returns-2
 returns-2 c =
-    let a = c .before .before .before .args .lists in
+    let a = c .before .before .before .args .table in
     let n = c .before .before .count-freeing .ensures .0 in
     rw (n, c .greatest-sequence .ensures) (sym (some-freeing (listed a) (λ e. c .before .if1 .left (n ∙ e))))
 

@@ -20,37 +20,67 @@ returns-2 c =
 
 scan-requires : tie.Need-scan-requires
 scan-requires c κs =
-    let w = whole-is (c .before .before .before .before .before .before .before .before .args .image .now) (sym (c .before .before .before .before .before .is-whole .ensures) ∙ not-false _ (c .before .before .before .before .if1 .left)) in
+    let at-if1 = c .before .before .before .before in
+    let at-is-whole = at-if1 .before in
+    let entered = at-is-whole .before .before .before in
+    let w = whole-is (entered .args .image .now) (sym (at-is-whole .is-whole .ensures) ∙ not-false _ (at-if1 .if1 .left)) in
     (c .before .before .table .ensures, w .0, w .1)
 
 returns-3 : tie.Need-returns-3
 returns-3 c =
-    let a = c .before .before .before .before .before .before .before .before .before .before .before .before in
-    refused-sequences (a .args .image .now) (a .args .lent) (a .args .allowance) (sym (c .before .before .before .before .before .before .before .before .before .is-whole .ensures) ∙ not-false _ (c .before .before .before .before .before .before .before .before .if1 .left)) (c .before .before .before .before .before .before .before .if2 .left) (ap tooHigh (sym (c .before .before .before .scan .ensures .list)) ∙ sym (c .before .before .is-too-high .ensures) ∙ c .before .if3 .taken) (c .without-rows3 .ensures .0) (c .without-rows3 .ensures .1)
+    let at-if2 = c .before .before .before .before .before .before .before in
+    let at-if1 = at-if2 .before in
+    let at-is-whole = at-if1 .before in
+    let a = at-is-whole .before .before .before in
+    refused-sequences (a .args .image .now) (a .args .lent) (a .args .allowance) (sym (at-is-whole .is-whole .ensures) ∙ not-false _ (at-if1 .if1 .left)) (at-if2 .if2 .left) (ap tooHigh (sym (c .before .before .before .scan .ensures .list)) ∙ sym (c .before .before .is-too-high .ensures) ∙ c .before .if3 .taken) (c .without-rows3 .ensures .0) (c .without-rows3 .ensures .1)
 
 make-stages-requires : tie.Need-make-stages-requires
 make-stages-requires c κs =
-    let w = whole-is (c .before .before .before .before .before .before .before .before .before .before .before .before .before .args .image .now) (sym (c .before .before .before .before .before .before .before .before .before .before .is-whole .ensures) ∙ not-false _ (c .before .before .before .before .before .before .before .before .before .if1 .left)) in
-    (c .before .before .before .before .before .before .before .table .ensures, c .before .before .before .before .scan .ensures, w .0, w .1, ap tooHigh (sym (c .before .before .before .before .scan .ensures .list)) ∙ sym (c .before .before .before .is-too-high .ensures) ∙ c .before .before .if3 .left)
+    let at-scan = c .before .before .before .before in
+    let at-table = at-scan .before .before .before in
+    let at-if1 = at-table .before .before in
+    let at-is-whole = at-if1 .before in
+    let entered = at-is-whole .before .before .before in
+    let w = whole-is (entered .args .image .now) (sym (at-is-whole .is-whole .ensures) ∙ not-false _ (at-if1 .if1 .left)) in
+    (at-table .table .ensures, at-scan .scan .ensures, w .0, w .1, ap tooHigh (sym (at-scan .scan .ensures .list)) ∙ sym (c .before .before .before .is-too-high .ensures) ∙ c .before .before .if3 .left)
 
 returns-4 : tie.Need-returns-4
 returns-4 c =
-    let a = c .before .before .before .before .before .before .before .before .before .before .before .before .before .before .before .before .before .before .before .before in
-    let high = ap tooHigh (sym (c .before .before .before .before .before .before .before .before .before .before .before .scan .ensures .list)) ∙ sym (c .before .before .before .before .before .before .before .before .before .before .is-too-high .ensures) ∙ c .before .before .before .before .before .before .before .before .before .if3 .left in
-    stopped-short (a .args .image .now) (a .args .lent) (a .args .allowance) (sym (c .before .before .before .before .before .before .before .before .before .before .before .before .before .before .before .before .before .is-whole .ensures) ∙ not-false _ (c .before .before .before .before .before .before .before .before .before .before .before .before .before .before .before .before .if1 .left)) (c .before .before .before .before .before .before .before .before .before .before .before .before .before .before .before .if2 .left) high (c .before .before .before .before .before .before .make-stages .ensures) (c .before .enum-told2 .given .1) (c .without-rows4 .ensures .0 ∙ c .before .before .before .told .ensures) (c .without-rows4 .ensures .1)
+    let at-make-stages = c .before .before .before .before .before .before in
+    let at-if3 = at-make-stages .before .before .before in
+    let at-is-too-high = at-if3 .before in
+    let at-scan = at-is-too-high .before in
+    let at-if2 = at-scan .before .before .before .before in
+    let at-if1 = at-if2 .before in
+    let at-is-whole = at-if1 .before in
+    let a = at-is-whole .before .before .before in
+    let high = ap tooHigh (sym (at-scan .scan .ensures .list)) ∙ sym (at-is-too-high .is-too-high .ensures) ∙ at-if3 .if3 .left in
+    stopped-short (a .args .image .now) (a .args .lent) (a .args .allowance) (sym (at-is-whole .is-whole .ensures) ∙ not-false _ (at-if1 .if1 .left)) (at-if2 .if2 .left) high (at-make-stages .make-stages .ensures) (c .before .enum-told2 .given .1) (c .without-rows4 .ensures .0 ∙ c .before .before .before .told .ensures) (c .without-rows4 .ensures .1)
 
 read-rows-requires : tie.Need-read-rows-requires
 read-rows-requires c κs =
-    let a = c .before .before .before .before .before .before .before .before .before .before .before .before .before .before .before .before .before .before .before .before .before in
-    let w = whole-is (a .args .image .now) (sym (c .before .before .before .before .before .before .before .before .before .before .before .before .before .before .before .before .before .before .is-whole .ensures) ∙ not-false _ (c .before .before .before .before .before .before .before .before .before .before .before .before .before .before .before .before .before .if1 .left)) in
-    let size = made-size (c .before .before .before .before .before .before .before .make-stages .ensures) in
-    (c .before .before .before .before .before .before .before .before .before .before .before .before .before .before .before .table .ensures, size ∙ w .0, w .1)
+    let at-make-stages = c .before .before .before .before .before .before .before in
+    let at-table = at-make-stages .before .before .before .before .before .before .before .before in
+    let at-if1 = at-table .before .before in
+    let at-is-whole = at-if1 .before in
+    let a = at-is-whole .before .before .before in
+    let w = whole-is (a .args .image .now) (sym (at-is-whole .is-whole .ensures) ∙ not-false _ (at-if1 .if1 .left)) in
+    let size = made-size (at-make-stages .make-stages .ensures) in
+    (at-table .table .ensures, size ∙ w .0, w .1)
 
 returns-5 : tie.Need-returns-5
 returns-5 c =
-    let a = c .before .before .before .before .before .before .before .before .before .before .before .before .before .before .before .before .before .before .before .before .before .before in
-    let high = ap tooHigh (sym (c .before .before .before .before .before .before .before .before .before .before .before .before .before .scan .ensures .list)) ∙ sym (c .before .before .before .before .before .before .before .before .before .before .before .before .is-too-high .ensures) ∙ c .before .before .before .before .before .before .before .before .before .before .before .if3 .left in
-    ended-rows (a .args .image .now) (a .args .lent) (a .args .allowance) (sym (c .before .before .before .before .before .before .before .before .before .before .before .before .before .before .before .before .before .before .before .is-whole .ensures) ∙ not-false _ (c .before .before .before .before .before .before .before .before .before .before .before .before .before .before .before .before .before .before .if1 .left)) (c .before .before .before .before .before .before .before .before .before .before .before .before .before .before .before .before .before .if2 .left) high (c .before .before .before .before .before .before .before .before .make-stages .ensures) (c .before .before .before .enum-told .given .1) (c .before .before .before .before .before .told .ensures) (c .read-rows .ensures)
+    let at-told = c .before .before .before .before .before in
+    let at-make-stages = at-told .before .before .before in
+    let at-if3 = at-make-stages .before .before .before in
+    let at-is-too-high = at-if3 .before in
+    let at-scan = at-is-too-high .before in
+    let at-if2 = at-scan .before .before .before .before in
+    let at-if1 = at-if2 .before in
+    let at-is-whole = at-if1 .before in
+    let a = at-is-whole .before .before .before in
+    let high = ap tooHigh (sym (at-scan .scan .ensures .list)) ∙ sym (at-is-too-high .is-too-high .ensures) ∙ at-if3 .if3 .left in
+    ended-rows (a .args .image .now) (a .args .lent) (a .args .allowance) (sym (at-is-whole .is-whole .ensures) ∙ not-false _ (at-if1 .if1 .left)) (at-if2 .if2 .left) high (at-make-stages .make-stages .ensures) (c .before .before .before .enum-told .given .1) (at-told .told .ensures) (c .read-rows .ensures)
 
 pub recover-image-spec : {M : Type 1} → statement M
 recover-image-spec =

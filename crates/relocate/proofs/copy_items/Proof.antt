@@ -100,16 +100,22 @@ returns c =
     (p .copy-item .ensures) (c .enum-told2 .given .1)
 
 add-i-2 : tie.Need-add-i-2 Inv-loop μ-loop
-add-i-2 c = let m = met (c .before .before .before .before .before .before .before) in omega arith
+add-i-2 c =
+    let at-known-told = c .before .before .before .before .before .before .before in
+    let m = met at-known-told in omega arith
 
 add-j : tie.Need-add-j Inv-loop μ-loop
 add-j c =
-    let m = met (c .before .before .before .before .before .before .before) in
-    let h = c .before .before .before .before .before .before .before .before .before .before .before .before .before .before .loop .inv in
+    let at-known-told = c .before .before .before .before .before .before .before in
+    let at-loop = at-known-told .before .before .before .before .before .before .before in
+    let m = met at-known-told in
+    let h = at-loop .loop .inv in
     omega arith
 
 loop-less-2 : tie.Need-loop-less-2 Inv-loop μ-loop
-loop-less-2 c = let m = met (c .before .before .before .before .before .before .before) in omega arith
+loop-less-2 c =
+    let at-known-told = c .before .before .before .before .before .before .before in
+    let m = met at-known-told in omega arith
 
 loop-again-2 : tie.Need-loop-again-2 Inv-loop μ-loop
 loop-again-2 c =

@@ -6,7 +6,9 @@ use Rattle.replay.proofs.one_case.Statement.{statement}
 use Rattle.replay.proofs.one_case.Tie as tie
 
 slice-aggregate-read-full-2 : tie.Need-slice-aggregate-read-full-2
-slice-aggregate-read-full-2 c = sym (length-take-le (c .before .before .le32 .result) (c .before .before .before .before .before .before .before .before .before .args .image .now) (omega arith))
+slice-aggregate-read-full-2 c =
+    let entered = c .before .before .before .before .before .before .before .before .before in
+    sym (length-take-le (c .before .before .le32 .result) (entered .args .image .now) (omega arith))
 
 pub one-case-spec : {M : Type 1} → statement M
 one-case-spec =

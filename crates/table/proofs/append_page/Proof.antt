@@ -10,7 +10,7 @@ use Rattle.table.proofs.append_page.Tie as tie
 
 returns : tie.Need-returns
 returns c =
-    let t = c .args .t in
+    let t = c .args .table in
     record {
       sized = record { list = simp length-set (omega arith); free = omega arith; sixteen = simp length-set (omega arith); sixteen-free = omega arith };
       list = rw (add-one (t .count)) (take-suc-set (t .pages) (t .count) (c .args .p) (omega arith));

@@ -8,7 +8,7 @@ use Rattle.table.proofs.drop_free.Tie as tie
 
 returns : tie.Need-returns
 returns c =
-    let t = c .before .args .t in (
+    let t = c .before .args .table in (
       record {
         sized = record { list = omega arith; free = omega arith; sixteen = omega arith; sixteen-free = omega arith };
         list = refl;

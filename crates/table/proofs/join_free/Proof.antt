@@ -10,7 +10,7 @@ use Rattle.table.proofs.join_free.Tie as tie
 
 returns : tie.Need-returns
 returns c =
-    let t = c .args .t in (
+    let t = c .args .table in (
       record {
         sized = record { list = omega arith; free = simp length-set (omega arith); sixteen = omega arith; sixteen-free = simp length-set (omega arith) };
         list = refl;

@@ -14,15 +14,21 @@ returns c =
     (goes-stop _ (goes-start _ _ _) refl (e .0) (c .enum-told .given .1), e .1)
 
 erase-chunks-requires : tie.Need-erase-chunks-requires
-erase-chunks-requires c κs = each-alike _ _ (c .before .before .before .before .before .before .erase-at .ensures .1) _ (c .before .before .before .before .before .before .before .before .before .before .pre .0)
+erase-chunks-requires c κs =
+    let at-erase-at = c .before .before .before .before .before .before in
+    let entered = at-erase-at .before .before .before .before in
+    each-alike _ _ (at-erase-at .erase-at .ensures .1) _ (entered .pre .0)
 
 returns-2 : tie.Need-returns-2
 unfolding dropVersion
 returns-2 c =
-    let e = c .before .before .before .before .before .before .before .before .before .erase-at .ensures in
+    let at-r = c .before .before .before .before .before in
+    let at-erase-at = at-r .before .before .before .before in
+    let entered = at-erase-at .before .before .before .before in
+    let e = at-erase-at .erase-at .ensures in
     let f = c .before .before .erase-chunks .ensures in
-    let items = items-alike _ _ (e .1) (c .before .before .before .before .before .before .before .before .before .before .before .before .before .args .places .now) (c .before .before .before .before .before .before .before .before .before .before .before .before .before .pre .0) in
-    (goes-last (goes-on (goes-start _ _ _) refl (e .0) (c .before .before .before .before .before .r .given .1)) (rw items at (f .0)), alike-trans (e .1) (f .1))
+    let items = items-alike _ _ (e .1) (entered .args .places .now) (entered .pre .0) in
+    (goes-last (goes-on (goes-start _ _ _) refl (e .0) (at-r .r .given .1)) (rw items at (f .0)), alike-trans (e .1) (f .1))
 
 pub drop-version-spec : {M : Type 1} → statement M
 drop-version-spec =

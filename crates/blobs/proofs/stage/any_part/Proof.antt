@@ -28,8 +28,10 @@ is-part-requires c κs =
 returns : tie.Need-returns Inv-loop μ-loop
 unfolding some-of
 returns c =
-    let l = c .before .before .before .before .loop in
-    let a = c .before .before .before .before .before .before .before .args in
+    let at-loop = c .before .before .before .before in
+    let entered = at-loop .before .before .before in
+    let l = at-loop .loop in
+    let a = entered .args in
     let image = a .image .now in
     let places = a .places .now in
     let rest = some-of (λ (x : Found). isPart (x .raw)) (itemsAt image (drop (l .i + 1) places)) in
@@ -40,8 +42,10 @@ returns c =
 loop-again : tie.Need-loop-again Inv-loop μ-loop
 unfolding some-of
 loop-again c =
-    let l = c .before .before .before .before .loop in
-    let a = c .before .before .before .before .before .before .before .args in
+    let at-loop = c .before .before .before .before in
+    let entered = at-loop .before .before .before in
+    let l = at-loop .loop in
+    let a = entered .args in
     let image = a .image .now in
     let places = a .places .now in
     let rest = some-of (λ (x : Found). isPart (x .raw)) (itemsAt image (drop (l .i + 1) places)) in

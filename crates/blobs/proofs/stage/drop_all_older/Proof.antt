@@ -38,49 +38,68 @@ run-end-requires c κs =
 
 group-at-requires : tie.Need-group-at-requires Inv-loop μ-loop
 group-at-requires c κs =
-    let l = c .before .before .before .before .before .loop in
-    let a = c .before .before .before .before .before .before .before .before in
-    rw (c .place-at .ensures) (each-at (Placed (l .image)) (a .args .places .now) 0 (gathered-still olderSteps groupBy (a .args .image .now) (l .image) (a .args .places .now) (l .inv .0) (a .pre) .each) (l .a) (c .before .before .before .before .loop-test .taken))
+    let at-loop-test = c .before .before .before .before in
+    let at-loop = at-loop-test .before in
+    let a = at-loop .before .before .before in
+    let l = at-loop .loop in
+    rw (c .place-at .ensures) (each-at (Placed (l .image)) (a .args .places .now) 0 (gathered-still olderSteps groupBy (a .args .image .now) (l .image) (a .args .places .now) (l .inv .0) (a .pre) .each) (l .a) (at-loop-test .loop-test .taken))
 
 drop-older-requires : tie.Need-drop-older-requires Inv-loop μ-loop
 drop-older-requires c κs =
-    let l = c .before .before .before .before .before .before .before .before .loop in
-    let a = c .before .before .before .before .before .before .before .before .before .before .before in
-    (gathered-run olderSteps groupBy (a .args .image .now) (l .image) (a .args .places .now) (l .inv .0) (a .pre) (l .a) (c .before .before .before .before .before .run-end .result) (c .before .before .before .before .before .run-end .ensures), c .before .before .group-at .ensures .1)
+    let at-run-end = c .before .before .before .before .before in
+    let at-loop = at-run-end .before .before .before in
+    let a = at-loop .before .before .before in
+    let l = at-loop .loop in
+    (gathered-run olderSteps groupBy (a .args .image .now) (l .image) (a .args .places .now) (l .inv .0) (a .pre) (l .a) (at-run-end .run-end .result) (at-run-end .run-end .ensures), c .before .before .group-at .ensures .1)
 
-steps : (c : tie.After-drop-older Inv-loop μ-loop) → let l = c .before .before .before .before .before .before .before .before .before .loop in let a = c .before .before .before .before .before .before .before .before .before .before .before .before .args in let e = c .before .before .before .before .before .before .run-end .result in
+steps : (c : tie.After-drop-older Inv-loop μ-loop) →
+    let at-run-end = c .before .before .before .before .before .before in
+    let at-loop = at-run-end .before .before .before in
+    let entered = at-loop .before .before .before in
+    let l = at-loop .loop in let a = entered .args in let e = at-run-end .run-end .result in
     older (itemsAt (l .image) (take (e - l .a) (drop (l .a) (a .places .now)))) (rankNumber (c .before .before .before .group-at .result)) ≡ olderSteps (itemsAt (a .image .now) (drop (l .a) (take e (a .places .now))))
 unfolding olderSteps
 steps c =
-    let l = c .before .before .before .before .before .before .before .before .before .loop in
-    let a = c .before .before .before .before .before .before .before .before .before .before .before .before in
-    let run = c .before .before .before .before .before .before .run-end in
+    let at-place-at = c .before .before .before .before in
+    let at-run-end = at-place-at .before .before in
+    let at-loop = at-run-end .before .before .before in
+    let a = at-loop .before .before .before in
+    let l = at-loop .loop in
+    let run = at-run-end .run-end in
     ap₂ older
     (items-run olderSteps groupBy (a .args .image .now) (l .image) (a .args .places .now) (l .inv .0) (a .pre) (l .a) (run .result) (run .ensures))
-    (c .before .before .before .group-at .ensures .0 ∙ ap (λ (p : ℕ). groupBy (itemAt (l .image) p)) (c .before .before .before .before .place-at .ensures)
+    (c .before .before .before .group-at .ensures .0 ∙ ap (λ (p : ℕ). groupBy (itemAt (l .image) p)) (at-place-at .place-at .ensures)
     ∙ first-group olderSteps groupBy (a .args .image .now) (l .image) (a .args .places .now) (l .inv .0) (a .pre) (l .a) (run .result) (run .ensures))
 
 returns : tie.Need-returns Inv-loop μ-loop
 returns c =
-    let l = c .before .before .before .before .before .before .before .before .before .before .before .before .before .loop in
-    let a = c .before .before .before .before .before .before .before .before .before .before .before .before .before .before .before .before in
-    let run = c .before .before .before .before .before .before .before .before .before .before .run-end in
-    let turn = c .before .before .before .before .drop-older .ensures in (
-      goes-stop _ (l .inv .1) (pass-left olderSteps groupBy (a .args .image .now) (l .image) (a .args .places .now) (l .inv .0) (a .pre) (l .a) (run .result) (run .ensures)) (rw (steps (c .before .before .before .before)) at (turn .0)) (c .enum-told .given .1),
+    let at-drop-older = c .before .before .before .before in
+    let at-run-end = at-drop-older .before .before .before .before .before .before in
+    let at-loop = at-run-end .before .before .before in
+    let a = at-loop .before .before .before in
+    let l = at-loop .loop in
+    let run = at-run-end .run-end in
+    let turn = at-drop-older .drop-older .ensures in (
+      goes-stop _ (l .inv .1) (pass-left olderSteps groupBy (a .args .image .now) (l .image) (a .args .places .now) (l .inv .0) (a .pre) (l .a) (run .result) (run .ensures)) (rw (steps at-drop-older) at (turn .0)) (c .enum-told .given .1),
       alike-trans (l .inv .0) (turn .1),
     )
 
 loop-less : tie.Need-loop-less Inv-loop μ-loop
-loop-less c = let run = c .before .before .before .before .before .before .before .before .before .before .before .run-end .ensures in omega (arith, run .more, run .upto)
+loop-less c =
+    let at-run-end = c .before .before .before .before .before .before .before .before .before .before .before in
+    let run = at-run-end .run-end .ensures in omega (arith, run .more, run .upto)
 
 loop-again : tie.Need-loop-again Inv-loop μ-loop
 loop-again c =
-    let l = c .before .before .before .before .before .before .before .before .before .before .before .before .before .before .loop in
-    let a = c .before .before .before .before .before .before .before .before .before .before .before .before .before .before .before .before .before in
-    let run = c .before .before .before .before .before .before .before .before .before .before .before .run-end in
-    let turn = c .before .before .before .before .before .drop-older .ensures in (
+    let at-drop-older = c .before .before .before .before .before in
+    let at-run-end = at-drop-older .before .before .before .before .before .before in
+    let at-loop = at-run-end .before .before .before in
+    let a = at-loop .before .before .before in
+    let l = at-loop .loop in
+    let run = at-run-end .run-end in
+    let turn = at-drop-older .drop-older .ensures in (
       alike-trans (l .inv .0) (turn .1),
-      goes-on (l .inv .1) (pass-left olderSteps groupBy (a .args .image .now) (l .image) (a .args .places .now) (l .inv .0) (a .pre) (l .a) (run .result) (run .ensures)) (rw (steps (c .before .before .before .before .before)) at (turn .0)) (c .before .r .given .1),
+      goes-on (l .inv .1) (pass-left olderSteps groupBy (a .args .image .now) (l .image) (a .args .places .now) (l .inv .0) (a .pre) (l .a) (run .result) (run .ensures)) (rw (steps at-drop-older) at (turn .0)) (c .before .r .given .1),
     )
 
 returns-2 : tie.Need-returns-2 Inv-loop μ-loop

@@ -33,30 +33,39 @@ space-end-requires c κs =
 
 judge-space-requires : tie.Need-judge-space-requires Inv-loop μ-loop
 judge-space-requires c κs =
-    let l = c .before .before .before .before .before .loop in
-    let a = c .before .before .before .before .before .before .before .before in
+    let at-loop = c .before .before .before .before .before in
+    let a = at-loop .before .before .before in
+    let l = at-loop .loop in
     gathered-run spaceSteps spaceBy (a .args .image .now) (l .image) (a .args .places .now) (l .inv .0) (a .pre) (l .a) (c .before .before .space-end .result) (c .before .before .space-end .ensures)
 
 returns : tie.Need-returns Inv-loop μ-loop
 returns c =
-    let l = c .before .before .before .before .before .before .before .before .before .before .loop in
-    let a = c .before .before .before .before .before .before .before .before .before .before .before .before .before in
-    let run = c .before .before .before .before .before .before .before .space-end in
-    let turn = c .before .before .before .before .judge-space .ensures in (
+    let at-judge-space = c .before .before .before .before in
+    let at-space-end = at-judge-space .before .before .before in
+    let at-loop = at-space-end .before .before .before in
+    let a = at-loop .before .before .before in
+    let l = at-loop .loop in
+    let run = at-space-end .space-end in
+    let turn = at-judge-space .judge-space .ensures in (
       goes-stop _ (l .inv .1) (pass-left spaceSteps spaceBy (a .args .image .now) (l .image) (a .args .places .now) (l .inv .0) (a .pre) (l .a) (run .result) (run .ensures))
           (rw (items-run spaceSteps spaceBy (a .args .image .now) (l .image) (a .args .places .now) (l .inv .0) (a .pre) (l .a) (run .result) (run .ensures)) at (turn .0)) (c .enum-told .given .1),
       alike-trans (l .inv .0) (turn .1),
     )
 
 loop-less : tie.Need-loop-less Inv-loop μ-loop
-loop-less c = let run = c .before .before .before .before .before .before .before .before .space-end .ensures in omega (arith, run .more, run .upto)
+loop-less c =
+    let at-space-end = c .before .before .before .before .before .before .before .before in
+    let run = at-space-end .space-end .ensures in omega (arith, run .more, run .upto)
 
 loop-again : tie.Need-loop-again Inv-loop μ-loop
 loop-again c =
-    let l = c .before .before .before .before .before .before .before .before .before .before .before .loop in
-    let a = c .before .before .before .before .before .before .before .before .before .before .before .before .before .before in
-    let run = c .before .before .before .before .before .before .before .before .space-end in
-    let turn = c .before .before .before .before .before .judge-space .ensures in (
+    let at-judge-space = c .before .before .before .before .before in
+    let at-space-end = at-judge-space .before .before .before in
+    let at-loop = at-space-end .before .before .before in
+    let a = at-loop .before .before .before in
+    let l = at-loop .loop in
+    let run = at-space-end .space-end in
+    let turn = at-judge-space .judge-space .ensures in (
       alike-trans (l .inv .0) (turn .1),
       goes-on (l .inv .1) (pass-left spaceSteps spaceBy (a .args .image .now) (l .image) (a .args .places .now) (l .inv .0) (a .pre) (l .a) (run .result) (run .ensures))
           (rw (items-run spaceSteps spaceBy (a .args .image .now) (l .image) (a .args .places .now) (l .inv .0) (a .pre) (l .a) (run .result) (run .ensures)) at (turn .0)) (c .before .r .given .1),

@@ -16,17 +16,21 @@ returns c =
 
 judge-start-requires-2 : tie.Need-judge-start-requires-2
 judge-start-requires-2 c κs =
-    let pre = c .before .before .before .before .before .before .before .before .before .before .pre in
-    (record { few = pre .few; each = each-alike _ _ (c .before .before .before .before .before .before .judge-start .ensures .1) _ (pre .each) }, lit< tt)
+    let at-judge-start = c .before .before .before .before .before .before in
+    let entered = at-judge-start .before .before .before .before in
+    let pre = entered .pre in
+    (record { few = pre .few; each = each-alike _ _ (at-judge-start .judge-start .ensures .1) _ (pre .each) }, lit< tt)
 
 returns-2 : tie.Need-returns-2
 unfolding spaceSteps
 returns-2 c =
-    let a = c .before .before .before .before .before .before .before .before .before .before .before .before .before in
-    let first = c .before .before .before .before .before .before .before .before .before .judge-start .ensures in
+    let at-r = c .before .before .before .before .before in
+    let at-judge-start = at-r .before .before .before .before in
+    let a = at-judge-start .before .before .before .before in
+    let first = at-judge-start .judge-start .ensures in
     let items = items-alike _ _ (first .1) (a .args .places .now) (a .pre .each) in
     let second = c .before .before .judge-start2 .ensures in
-    (goes-last (goes-on (goes-start _ _ _) refl (first .0) (c .before .before .before .before .before .r .given .1)) (rw items at (second .0)), alike-trans (first .1) (second .1))
+    (goes-last (goes-on (goes-start _ _ _) refl (first .0) (at-r .r .given .1)) (rw items at (second .0)), alike-trans (first .1) (second .1))
 
 pub judge-space-spec : {M : Type 1} → statement M
 judge-space-spec =

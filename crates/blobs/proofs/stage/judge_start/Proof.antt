@@ -38,54 +38,76 @@ run-end-requires c κs =
 
 group-at-requires : tie.Need-group-at-requires Inv-loop μ-loop
 group-at-requires c κs =
-    let l = c .before .before .before .before .before .loop in
-    let a = c .before .before .before .before .before .before .before .before in
-    rw (c .place-at .ensures) (each-at (Placed (l .image)) (a .args .places .now) 0 (gathered-still (startSteps (a .args .start)) groupBy (a .args .image .now) (l .image) (a .args .places .now) (l .inv .0) (a .pre .0) .each) (l .a) (c .before .before .before .before .loop-test .taken))
+    let at-loop-test = c .before .before .before .before in
+    let at-loop = at-loop-test .before in
+    let a = at-loop .before .before .before in
+    let l = at-loop .loop in
+    rw (c .place-at .ensures) (each-at (Placed (l .image)) (a .args .places .now) 0 (gathered-still (startSteps (a .args .start)) groupBy (a .args .image .now) (l .image) (a .args .places .now) (l .inv .0) (a .pre .0) .each) (l .a) (at-loop-test .loop-test .taken))
 
 version-in-requires : tie.Need-version-in-requires Inv-loop μ-loop
-version-in-requires c κs = (c .before .before .group-at .ensures .1, c .before .before .before .before .before .before .before .before .before .before .before .pre .1)
+version-in-requires c κs =
+    let entered = c .before .before .before .before .before .before .before .before .before .before .before in
+    (c .before .before .group-at .ensures .1, entered .pre .1)
 
 judge-version-requires : tie.Need-judge-version-requires Inv-loop μ-loop
 judge-version-requires c κs =
-    let l = c .before .before .before .before .before .before .before .before .before .loop in
-    let a = c .before .before .before .before .before .before .before .before .before .before .before .before in
-    gathered-run (startSteps (a .args .start)) groupBy (a .args .image .now) (l .image) (a .args .places .now) (l .inv .0) (a .pre .0) (l .a) (c .before .before .before .before .before .before .run-end .result) (c .before .before .before .before .before .before .run-end .ensures)
+    let at-run-end = c .before .before .before .before .before .before in
+    let at-loop = at-run-end .before .before .before in
+    let a = at-loop .before .before .before in
+    let l = at-loop .loop in
+    gathered-run (startSteps (a .args .start)) groupBy (a .args .image .now) (l .image) (a .args .places .now) (l .inv .0) (a .pre .0) (l .a) (at-run-end .run-end .result) (at-run-end .run-end .ensures)
 
 -- what is judged is the run's version
-steps : (c : tie.After-judge-version Inv-loop μ-loop) → let l = c .before .before .before .before .before .before .before .before .before .before .loop in let a = c .before .before .before .before .before .before .before .before .before .before .before .before .before .args in let e = c .before .before .before .before .before .before .before .run-end .result in
+steps : (c : tie.After-judge-version Inv-loop μ-loop) →
+    let at-run-end = c .before .before .before .before .before .before .before in
+    let at-loop = at-run-end .before .before .before in
+    let entered = at-loop .before .before .before in
+    let l = at-loop .loop in let a = entered .args in let e = at-run-end .run-end .result in
     judge (itemsAt (l .image) (take (e - l .a) (drop (l .a) (a .places .now)))) (rankNumber (c .before .version-in .result)) ≡ startSteps (a .start) (itemsAt (a .image .now) (drop (l .a) (take e (a .places .now))))
 unfolding startSteps
 steps c =
-    let l = c .before .before .before .before .before .before .before .before .before .before .loop in
-    let a = c .before .before .before .before .before .before .before .before .before .before .before .before .before in
+    let at-group-at = c .before .before .before .before in
+    let at-place-at = at-group-at .before in
+    let at-run-end = at-place-at .before .before in
+    let at-loop = at-run-end .before .before .before in
+    let a = at-loop .before .before .before in
+    let l = at-loop .loop in
     let start = a .args .start in
-    let run = c .before .before .before .before .before .before .before .run-end in
+    let run = at-run-end .run-end in
     ap₂ judge
     (items-run (startSteps start) groupBy (a .args .image .now) (l .image) (a .args .places .now) (l .inv .0) (a .pre .0) (l .a) (run .result) (run .ensures))
-    (c .before .version-in .ensures ∙ ap (λ (k : ℕ). versionIn k start) (c .before .before .before .before .group-at .ensures .0 ∙ ap (λ (p : ℕ). groupBy (itemAt (l .image) p)) (c .before .before .before .before .before .place-at .ensures)
+    (c .before .version-in .ensures ∙ ap (λ (k : ℕ). versionIn k start) (at-group-at .group-at .ensures .0 ∙ ap (λ (p : ℕ). groupBy (itemAt (l .image) p)) (at-place-at .place-at .ensures)
     ∙ first-group (startSteps start) groupBy (a .args .image .now) (l .image) (a .args .places .now) (l .inv .0) (a .pre .0) (l .a) (run .result) (run .ensures)))
 
 returns : tie.Need-returns Inv-loop μ-loop
 returns c =
-    let l = c .before .before .before .before .before .before .before .before .before .before .before .before .before .before .loop in
-    let a = c .before .before .before .before .before .before .before .before .before .before .before .before .before .before .before .before .before in
-    let run = c .before .before .before .before .before .before .before .before .before .before .before .run-end in
-    let turn = c .before .before .before .before .judge-version .ensures in (
-      goes-stop _ (l .inv .1) (pass-left (startSteps (a .args .start)) groupBy (a .args .image .now) (l .image) (a .args .places .now) (l .inv .0) (a .pre .0) (l .a) (run .result) (run .ensures)) (rw (steps (c .before .before .before .before)) at (turn .0)) (c .enum-told .given .1),
+    let at-judge-version = c .before .before .before .before in
+    let at-run-end = at-judge-version .before .before .before .before .before .before .before in
+    let at-loop = at-run-end .before .before .before in
+    let a = at-loop .before .before .before in
+    let l = at-loop .loop in
+    let run = at-run-end .run-end in
+    let turn = at-judge-version .judge-version .ensures in (
+      goes-stop _ (l .inv .1) (pass-left (startSteps (a .args .start)) groupBy (a .args .image .now) (l .image) (a .args .places .now) (l .inv .0) (a .pre .0) (l .a) (run .result) (run .ensures)) (rw (steps at-judge-version) at (turn .0)) (c .enum-told .given .1),
       alike-trans (l .inv .0) (turn .1),
     )
 
 loop-less : tie.Need-loop-less Inv-loop μ-loop
-loop-less c = let run = c .before .before .before .before .before .before .before .before .before .before .before .before .run-end .ensures in omega (arith, run .more, run .upto)
+loop-less c =
+    let at-run-end = c .before .before .before .before .before .before .before .before .before .before .before .before in
+    let run = at-run-end .run-end .ensures in omega (arith, run .more, run .upto)
 
 loop-again : tie.Need-loop-again Inv-loop μ-loop
 loop-again c =
-    let l = c .before .before .before .before .before .before .before .before .before .before .before .before .before .before .before .loop in
-    let a = c .before .before .before .before .before .before .before .before .before .before .before .before .before .before .before .before .before .before in
-    let run = c .before .before .before .before .before .before .before .before .before .before .before .before .run-end in
-    let turn = c .before .before .before .before .before .judge-version .ensures in (
+    let at-judge-version = c .before .before .before .before .before in
+    let at-run-end = at-judge-version .before .before .before .before .before .before .before in
+    let at-loop = at-run-end .before .before .before in
+    let a = at-loop .before .before .before in
+    let l = at-loop .loop in
+    let run = at-run-end .run-end in
+    let turn = at-judge-version .judge-version .ensures in (
       alike-trans (l .inv .0) (turn .1),
-      goes-on (l .inv .1) (pass-left (startSteps (a .args .start)) groupBy (a .args .image .now) (l .image) (a .args .places .now) (l .inv .0) (a .pre .0) (l .a) (run .result) (run .ensures)) (rw (steps (c .before .before .before .before .before)) at (turn .0)) (c .before .r .given .1),
+      goes-on (l .inv .1) (pass-left (startSteps (a .args .start)) groupBy (a .args .image .now) (l .image) (a .args .places .now) (l .inv .0) (a .pre .0) (l .a) (run .result) (run .ensures)) (rw (steps at-judge-version) at (turn .0)) (c .before .r .given .1),
     )
 
 returns-2 : tie.Need-returns-2 Inv-loop μ-loop

@@ -14,38 +14,53 @@ use Rattle.blobs.proofs.stage.judge_version.Tie as tie
 returns : tie.Need-returns
 unfolding judge judgeWith
 returns c =
-    let a = c .before .before .before .before .before .before .before .before .before .before in
+    let at-enum-told = c .before .before .before .before in
+    let at-newest-of = at-enum-told .before .before in
+    let a = at-newest-of .before .before .before .before in
     let l = a .args .image .now in
     let v = rankNumber (a .args .v) in
-    let found = c .before .before .before .before .before .before .newest-of .ensures in
-    let q = sym (newest-counts v (itemsAt l (a .args .places .now))) ∙ sym (found .0) ∙ ap (newestOf l) (c .before .before .before .before .enum-told .given .1) in
+    let found = at-newest-of .newest-of .ensures in
+    let q = sym (newest-counts v (itemsAt l (a .args .places .now))) ∙ sym (found .0) ∙ ap (newestOf l) (at-enum-told .enum-told .given .1) in
     rw q (c .before .before .erase-chunks .ensures)
 
 is-sound-requires : tie.Need-is-sound-requires
-is-sound-requires c κs = (c .before .before .before .before .before .before .before .before .pre, rw (c .before .before .index .given .1) at (c .before .before .before .before .newest-of .ensures .1))
+is-sound-requires c κs =
+    let at-newest-of = c .before .before .before .before in
+    let entered = at-newest-of .before .before .before .before in
+    (entered .pre, rw (c .before .before .index .given .1) at (at-newest-of .newest-of .ensures .1))
 
 returns-2 : tie.Need-returns-2
 unfolding judge judgeWith
 returns-2 c =
-    let a = c .before .before .before .before .before .before .before .before .before .before in
+    let at-index = c .before .before .before .before in
+    let at-newest-of = at-index .before .before in
+    let a = at-newest-of .before .before .before .before in
     let l = a .args .image .now in
     let v = rankNumber (a .args .v) in
-    let found = c .before .before .before .before .before .before .newest-of .ensures in
-    let q = sym (newest-counts v (itemsAt l (a .args .places .now))) ∙ sym (found .0) ∙ ap (newestOf l) (c .before .before .before .before .index .given .1) in
+    let found = at-newest-of .newest-of .ensures in
+    let q = sym (newest-counts v (itemsAt l (a .args .places .now))) ∙ sym (found .0) ∙ ap (newestOf l) (at-index .index .given .1) in
     rw (q, sym (c .before .is-sound .ensures) ∙ c .if1 .taken) (did-none _ _, alike-refl _)
 
 drop-version-requires : tie.Need-drop-version-requires
-drop-version-requires c κs = (c .before .before .before .before .before .before .before .before .before .before .before .pre .each, rw (c .before .before .before .before .before .index .given .1) at (c .before .before .before .before .before .before .before .newest-of .ensures .1))
+drop-version-requires c κs =
+    let at-index = c .before .before .before .before .before in
+    let at-newest-of = at-index .before .before in
+    let entered = at-newest-of .before .before .before .before in
+    (entered .pre .each, rw (at-index .index .given .1) at (at-newest-of .newest-of .ensures .1))
 
 returns-3 : tie.Need-returns-3
 unfolding judge judgeWith
 returns-3 c =
-    let a = c .before .before .before .before .before .before .before .before .before .before .before .before .before .before in
+    let at-if1 = c .before .before .before .before in
+    let at-is-sound = at-if1 .before in
+    let at-index = at-is-sound .before .before .before in
+    let at-newest-of = at-index .before .before in
+    let a = at-newest-of .before .before .before .before in
     let l = a .args .image .now in
     let v = rankNumber (a .args .v) in
-    let found = c .before .before .before .before .before .before .before .before .before .before .newest-of .ensures in
-    let q = sym (newest-counts v (itemsAt l (a .args .places .now))) ∙ sym (found .0) ∙ ap (newestOf l) (c .before .before .before .before .before .before .before .before .index .given .1) in
-    rw (q, sym (c .before .before .before .before .before .is-sound .ensures) ∙ c .before .before .before .before .if1 .left) (c .before .before .drop-version .ensures)
+    let found = at-newest-of .newest-of .ensures in
+    let q = sym (newest-counts v (itemsAt l (a .args .places .now))) ∙ sym (found .0) ∙ ap (newestOf l) (at-index .index .given .1) in
+    rw (q, sym (at-is-sound .is-sound .ensures) ∙ at-if1 .if1 .left) (c .before .before .drop-version .ensures)
 
 pub judge-version-spec : {M : Type 1} → statement M
 judge-version-spec =

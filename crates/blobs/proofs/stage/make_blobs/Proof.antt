@@ -44,43 +44,58 @@ steps-are l ps small =
 
 sort-requires : tie.Need-sort-requires
 sort-requires c κs =
-    let a = c .before .before .before .before .before .before .before .before .before in
-    let kept = c .before .before .before .before .keep-parts in
+    let at-keep-parts = c .before .before .before .before in
+    let a = at-keep-parts .before .before .before .before .before in
+    let kept = at-keep-parts .keep-parts in
     (rw (kept .ensures .1) (each-part (a .args .image .now) (take (a .args .n) (a .args .room .now)) (a .pre .0)), omega (arith, kept .ensures .0, a .pre .1), omega (arith, kept .ensures .0, a .pre .1, a .pre .2, c .before .before .before .room .given))
 
 -- the places after the sort
-by-group : (c : tie.After-take-parts-arg2) → let a = c .before .before .before .before .before .before .before .before .before .before .before .before .before .before .args in
-    take (c .before .before .before .before .before .before .before .before .before .keep-parts .result) (c .before .before .before .before .sort .last .1 .0) ≡ sortBy (below (rankAt (a .image .now) Group)) (parts (a .image .now) (take (a .n) (a .room .now)))
+by-group : (c : tie.After-take-parts-arg2) →
+    let at-sort = c .before .before .before .before in
+    let at-keep-parts = at-sort .before .before .before .before .before in
+    let entered = at-keep-parts .before .before .before .before .before in
+    let a = entered .args in
+    take (at-keep-parts .keep-parts .result) (at-sort .sort .last .1 .0) ≡ sortBy (below (rankAt (a .image .now) Group)) (parts (a .image .now) (take (a .n) (a .room .now)))
 by-group c =
-    let a = c .before .before .before .before .before .before .before .before .before .before .before .before .before .before in
-    let kept = c .before .before .before .before .before .before .before .before .before .keep-parts in
+    let at-sort = c .before .before .before .before in
+    let at-room = at-sort .before .before .before .before in
+    let at-keep-parts = at-room .before in
+    let a = at-keep-parts .before .before .before .before .before in
+    let kept = at-keep-parts .keep-parts in
     let o = below (rankAt (a .args .image .now) Group) in
-    front-sorted o 2016 (kept .result) (kept .last .1 .0) (c .before .before .before .before .sort .last .1 .0) (omega (arith, kept .ensures .0, a .pre .1)) (omega (arith, kept .ensures .0, a .pre .1, a .pre .2, c .before .before .before .before .before .before .before .before .room .given)) (c .before .before .before .before .sort .ensures)
+    front-sorted o 2016 (kept .result) (kept .last .1 .0) (at-sort .sort .last .1 .0) (omega (arith, kept .ensures .0, a .pre .1)) (omega (arith, kept .ensures .0, a .pre .1, a .pre .2, at-room .room .given)) (at-sort .sort .ensures)
     ∙ ap (sortBy o) (kept .ensures .1)
 
 slice-aggregate-take-parts : tie.Need-slice-aggregate-take-parts
 slice-aggregate-take-parts c =
-    let a = c .before .before .before .before .before .before .before .before .before .before .before .before .before .before in
-    let kept = c .before .before .before .before .before .before .before .before .before .keep-parts in
-    sym (length-take-le (kept .result) (c .before .before .before .before .sort .last .1 .0) (omega (arith, kept .ensures .0, a .pre .1, a .pre .2, c .before .before .before .before .before .before .before .before .room .given, c .before .before .before .room2 .given)))
+    let at-sort = c .before .before .before .before in
+    let at-room = at-sort .before .before .before .before in
+    let at-keep-parts = at-room .before in
+    let a = at-keep-parts .before .before .before .before .before in
+    let kept = at-keep-parts .keep-parts in
+    sym (length-take-le (kept .result) (at-sort .sort .last .1 .0) (omega (arith, kept .ensures .0, a .pre .1, a .pre .2, at-room .room .given, c .before .before .before .room2 .given)))
 
 take-parts-requires : tie.Need-take-parts-requires
 take-parts-requires c κs =
-    let a = c .before .before .before .before .before .before .before .before .before .before .before .before .before .before in
+    let at-sort = c .before .before .before .before in
+    let at-room = at-sort .before .before .before .before in
+    let at-keep-parts = at-room .before in
+    let a = at-keep-parts .before .before .before .before .before in
     let image = a .args .image .now in
-    let kept = c .before .before .before .before .before .before .before .before .before .keep-parts in
+    let kept = at-keep-parts .keep-parts in
     record {
-      few = rw (length-take-le (kept .result) (c .before .before .before .before .sort .last .1 .0) (omega (arith, kept .ensures .0, a .pre .1, a .pre .2, c .before .before .before .before .before .before .before .before .room .given, c .before .before .before .room2 .given))) (omega (arith, kept .ensures .0, a .pre .1));
+      few = rw (length-take-le (kept .result) (at-sort .sort .last .1 .0) (omega (arith, kept .ensures .0, a .pre .1, a .pre .2, at-room .room .given, c .before .before .before .room2 .given))) (omega (arith, kept .ensures .0, a .pre .1));
       each = rw (by-group c) (each-sort (Placed image) (below (rankAt image Group)) (parts image (take (a .args .n) (a .args .room .now))) (each-part image (take (a .args .n) (a .args .room .now)) (a .pre .0)));
     }
 
 returns : tie.Need-returns
 returns c =
     let k = c .before .before .before in
-    let a = c .before .before .before .before .before .before .before .before .before .before .before .before .before .before .before .before .before in
+    let at-slice-known = k .before .before .before .before .before .before .before .before .before .before .before .before .before in
+    let a = at-slice-known .before in
     let l = a .args .image .now in
     let ps = take (a .args .n) (a .args .room .now) in
-    let small : (i : ℕ) → getD l i 0 < 256 = λ i. omega (arith, c .before .before .before .before .before .before .before .before .before .before .before .before .before .before .before .before .slice-known .given i) in
+    let small : (i : ℕ) → getD l i 0 < 256 = λ i. omega (arith, at-slice-known .slice-known .given i) in
     let turn = c .before .before .take-parts .ensures in
     (rw (by-group k, steps-are l ps small) at (turn .0), turn .1)
 

@@ -35,15 +35,20 @@ namespace-at-requires-2 c κs =
     rw (c .place-at2 .ensures) (each-at (Placed (a .args .image .now)) (a .args .places .now) 0 (a .pre .0) (c .before .before .loop .e) (c .before .loop-test .taken))
 
 -- the namespace of the turn's place
-here : (c : tie.After-namespace-at2 Inv-loop μ-loop) → let a = c .before .before .before .before .before .before .before .before .args in c .namespace-at2 .result ≡ spaceBy (itemAt (a .image .now) (getD (a .places .now) (c .before .before .before .loop .e) 0))
+here : (c : tie.After-namespace-at2 Inv-loop μ-loop) →
+    let entered = c .before .before .before .before .before .before .before .before in
+    let a = entered .args in c .namespace-at2 .result ≡ spaceBy (itemAt (a .image .now) (getD (a .places .now) (c .before .before .before .loop .e) 0))
 here c =
-    let a = c .before .before .before .before .before .before .before .before .args in
+    let entered = c .before .before .before .before .before .before .before .before in
+    let a = entered .args in
     c .namespace-at2 .ensures ∙ ap (λ (p : ℕ). spaceBy (itemAt (a .image .now) p)) (c .before .place-at2 .ensures)
 
 returns : tie.Need-returns Inv-loop μ-loop
 returns c =
-    let a = c .before .before .before .before .before .before .before .before .before .args in
-    let l = c .before .before .before .before .loop in
+    let at-loop = c .before .before .before .before in
+    let entered = at-loop .before .before .before .before .before in
+    let a = entered .args in
+    let l = at-loop .loop in
     let image = a .image .now in
     let places = a .places .now in
     ends-here spaceBy image places (a .a) (l .e) (l .inv .0) (l .inv .1) (l .inv .3) (λ x t q r.
@@ -52,8 +57,10 @@ returns c =
 
 loop-again : tie.Need-loop-again Inv-loop μ-loop
 loop-again c =
-    let a = c .before .before .before .before .before .before .before .before .before .args in
-    let l = c .before .before .before .before .loop in (
+    let at-loop = c .before .before .before .before in
+    let entered = at-loop .before .before .before .before .before in
+    let a = entered .args in
+    let l = at-loop .loop in (
       omega (arith, l .inv .0),
       omega (arith, c .before .before .before .loop-test .taken),
       l .inv .2,

@@ -46,8 +46,10 @@ is-chunk-of-requires c κs = let h = here c in rw (h .0) (h .1)
 
 loop-again : tie.Need-loop-again Inv-loop μ-loop
 loop-again c =
-    let l = c .before .before .before .before .loop in
-    let a = c .before .before .before .before .before .before .before .args in
+    let at-loop = c .before .before .before .before in
+    let entered = at-loop .before .before .before in
+    let l = at-loop .loop in
+    let a = entered .args in
     let image = a .image .now in
     let places = a .places .now in
     let v = rankNumber (a .v) in
@@ -68,8 +70,10 @@ chunk-size-requires c κs = let h = here (c .before .before) in omega (arith, h 
 
 loop-again-2 : tie.Need-loop-again-2 Inv-loop μ-loop
 loop-again-2 c =
-    let l = c .before .before .before .before .before .loop in
-    let a = c .before .before .before .before .before .before .before .before .args in
+    let at-loop = c .before .before .before .before .before in
+    let entered = at-loop .before .before .before in
+    let l = at-loop .loop in
+    let a = entered .args in
     let image = a .image .now in
     let places = a .places .now in
     let v = rankNumber (a .v) in

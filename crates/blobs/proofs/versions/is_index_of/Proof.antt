@@ -22,9 +22,12 @@ returns-2 c =
 
 returns-3 : tie.Need-returns-3
 returns-3 c =
-    let a = c .before .before .before .before .before .before .before .args in
+    let at-if1 = c .before .before .before .before in
+    let at-is-index = at-if1 .before in
+    let entered = at-is-index .before .before in
+    let a = entered .args in
     let is : (r : Rank) → eqb (rankNumber (c .before .before .before .version-at .result)) (rankNumber r) ≡ eqb (versionOf (itemAt (a .image .now) (a .place) .raw)) (rankNumber r) = λ r. ap (λ (n : ℕ). eqb n (rankNumber r)) (c .before .before .before .version-at .ensures .0) in
-    rw (sym (c .before .before .before .before .before .is-index .ensures) ∙ not-false _ (c .before .before .before .before .if1 .left), sym (is (a .v)) ∙ sym (c .before .before .rank-same .ensures) ∙ c .before .if2 .left)
+    rw (sym (at-is-index .is-index .ensures) ∙ not-false _ (at-if1 .if1 .left), sym (is (a .v)) ∙ sym (c .before .before .rank-same .ensures) ∙ c .before .if2 .left)
     (c .rank-same2 .ensures ∙ is (a .w))
 
 pub is-index-of-spec : {M : Type 1} → statement M

@@ -9,23 +9,23 @@ use Rattle.found.specs.Ranks.{rankNumber}
 use Rattle.found.specs.Places.{itemAt, itemsAt, Placed}
 use Rattle.found.proofs.Reading.{items-more, items-end}
 use Rattle.lists.proofs.Each.{each-at}
-use Rattle.blobs.specs.Search.{newestOf, PlacedAt, newest, newestWith}
+use Rattle.blobs.specs.Search.{newestOf, PlacedAt, newestIndex, newestWith}
 use Rattle.blobs.proofs.Newer.{newest-more}
 use Rattle.blobs.proofs.versions.newest_of.Statement.{statement}
 use Rattle.blobs.proofs.versions.newest_of.Tie as tie
 
 abbrev Inv-loop : tie.InvT-loop
 Inv-loop image places v w best₀ i₀ best i =
-    (i ≤ length places) × (newestOf image best ≡ newest (rankNumber v) (rankNumber w) (itemsAt image (drop i places))) × PlacedAt image best
+    (i ≤ length places) × (newestOf image best ≡ newestIndex (rankNumber v) (rankNumber w) (itemsAt image (drop i places))) × PlacedAt image best
 
 abbrev μ-loop : tie.MeasureT-loop
 μ-loop image places v w best₀ i₀ best i = i
 
 loop-holds : tie.Need-loop-holds Inv-loop μ-loop
-unfolding newest keep bestOf
+unfolding newestIndex keep bestOf
 loop-holds c =
     let a = c .before .before .args in
-    (omega arith, sym (ap (newest (rankNumber (a .v)) (rankNumber (a .w))) (items-end (a .image .now) (a .places .now) (length (a .places .now)) (omega arith))), tt)
+    (omega arith, sym (ap (newestIndex (rankNumber (a .v)) (rankNumber (a .w))) (items-end (a .image .now) (a .places .now) (length (a .places .now)) (omega arith))), tt)
 
 newer-of-requires : tie.Need-newer-of-requires Inv-loop μ-loop
 newer-of-requires c κs =
@@ -45,9 +45,9 @@ loop-again c =
       omega arith,
       c .newer-of .ensures .0
           ∙ ap (λ (p : ℕ). newestWith v w (itemAt image p) (newestOf image (l .best))) (c .before .place-at .ensures)
-          ∙ ap (newestWith v w _) (l .inv .1 ∙ ap (λ (k : ℕ). newest v w (itemsAt image (drop k places))) (sym e))
+          ∙ ap (newestWith v w _) (l .inv .1 ∙ ap (λ (k : ℕ). newestIndex v w (itemsAt image (drop k places))) (sym e))
           ∙ sym (newest-more v w (itemAt image (getD places (l .i - 1) 0)) (itemsAt image (drop (l .i - 1 + 1) places)))
-          ∙ sym (ap (newest v w) (items-more image places (l .i - 1) (omega arith))),
+          ∙ sym (ap (newestIndex v w) (items-more image places (l .i - 1) (omega arith))),
       c .newer-of .ensures .1,
     )
 
@@ -55,7 +55,7 @@ returns : tie.Need-returns Inv-loop μ-loop
 returns c =
     let a = c .before .before .before .before .args in
     let e : c .before .loop .i ≡ 0 = omega arith in
-    (c .before .loop .inv .1 ∙ ap (λ (k : ℕ). newest (rankNumber (a .v)) (rankNumber (a .w)) (itemsAt (a .image .now) (drop k (a .places .now)))) e, c .before .loop .inv .2)
+    (c .before .loop .inv .1 ∙ ap (λ (k : ℕ). newestIndex (rankNumber (a .v)) (rankNumber (a .w)) (itemsAt (a .image .now) (drop k (a .places .now)))) e, c .before .loop .inv .2)
 
 pub newest-of-spec : {M : Type 1} → statement M
 newest-of-spec =

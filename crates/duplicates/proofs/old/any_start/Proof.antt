@@ -42,16 +42,20 @@ test c =
 
 returns : tie.Need-returns Inv-loop μ-loop
 returns c =
-    let l = c .before .before .before .before .loop in
-    let a = c .before .before .before .before .before .before .before .args in
+    let at-loop = c .before .before .before .before in
+    let entered = at-loop .before .before .before in
+    let l = at-loop .loop in
+    let a = entered .args in
     let x = itemAt (a .image .now) (getD (a .places .now) (l .i - 1) 0) in
     sym (some-is (λ (y : Found). indexFrom (a .start) (y .raw)) (itemsAt (a .image .now) (a .places .now)) x
     (item-in (a .image .now) (a .places .now) (l .i) (c .before .before .before .loop-test .taken) (l .inv .0)) (test (c .before) ∙ c .if1 .taken))
 
 loop-again : tie.Need-loop-again Inv-loop μ-loop
 loop-again c =
-    let l = c .before .before .before .before .loop in
-    let a = c .before .before .before .before .before .before .before .args in
+    let at-loop = c .before .before .before .before in
+    let entered = at-loop .before .before .before in
+    let l = at-loop .loop in
+    let a = entered .args in
     (omega arith, some-past (a .image .now) (a .places .now) (l .i) (c .before .before .before .loop-test .taken) (l .inv .0) (λ (y : Found). indexFrom (a .start) (y .raw)) (test (c .before) ∙ c .if1 .left) ∙ l .inv .1)
 
 returns-2 : tie.Need-returns-2 Inv-loop μ-loop

@@ -34,7 +34,9 @@ erase-old-requires c κs =
     (each-alike _ _ like _ (a .pre .0), each-alike _ _ like _ (a .pre .1), omega arith)
 
 -- what a turn erased, in terms of the image as the call began
-turn : (c : tie.After-erase-old Inv-loop μ-loop) → let a = c .before .before .before .before .before .before .before .args in let l = a .image .now in let j = c .before .before .before .loop .i - 1 in
+turn : (c : tie.After-erase-old Inv-loop μ-loop) →
+    let entered = c .before .before .before .before .before .before .before in
+    let a = entered .args in let l = a .image .now in let j = c .before .before .before .loop .i - 1 in
     Did (eraseAll (oldOne (itemsAt l (a .places .now)) (itemAt l (lastAt (a .sorted .now))) (itemsAt l (take j (a .sorted .now))) (itemAt l (getD (a .sorted .now) j 0))))
     (c .before .before .before .loop .left) (c .before .before .before .loop .image) (c .erase-old .last .0) (c .erase-old .result)
 turn c =
@@ -51,18 +53,24 @@ turn c =
 
 returns : tie.Need-returns Inv-loop μ-loop
 returns c =
-    let l = c .before .before .before .before .before .before .before .loop in
-    let a = c .before .before .before .before .before .before .before .before .before .before .before .args in
-    (goes-stop _ (l .inv .2) (left-more (a .image .now) (a .places .now) (a .sorted .now) (l .i - 1) (omega arith)) (turn (c .before .before .before .before)) (c .enum-told .given .1), alike-trans (l .inv .1) (c .before .before .before .before .erase-old .ensures .1))
+    let at-erase-old = c .before .before .before .before in
+    let at-loop = at-erase-old .before .before .before in
+    let entered = at-loop .before .before .before .before in
+    let l = at-loop .loop in
+    let a = entered .args in
+    (goes-stop _ (l .inv .2) (left-more (a .image .now) (a .places .now) (a .sorted .now) (l .i - 1) (omega arith)) (turn at-erase-old) (c .enum-told .given .1), alike-trans (l .inv .1) (at-erase-old .erase-old .ensures .1))
 
 loop-again : tie.Need-loop-again Inv-loop μ-loop
 loop-again c =
-    let l = c .before .before .before .before .before .before .before .before .loop in
-    let a = c .before .before .before .before .before .before .before .before .before .before .before .before .args in
+    let at-erase-old = c .before .before .before .before .before in
+    let at-loop = at-erase-old .before .before .before in
+    let entered = at-loop .before .before .before .before in
+    let l = at-loop .loop in
+    let a = entered .args in
     let e : l .i - 1 + 1 ≡ l .i + 1 - 1 = omega arith in (
       omega arith,
-      alike-trans (l .inv .1) (c .before .before .before .before .before .erase-old .ensures .1),
-      goes-same (goes-on (l .inv .2) (left-more (a .image .now) (a .places .now) (a .sorted .now) (l .i - 1) (omega arith)) (turn (c .before .before .before .before .before)) (c .before .r .given .1)) (ap (leftFrom (a .image .now) (a .places .now) (a .sorted .now)) e),
+      alike-trans (l .inv .1) (at-erase-old .erase-old .ensures .1),
+      goes-same (goes-on (l .inv .2) (left-more (a .image .now) (a .places .now) (a .sorted .now) (l .i - 1) (omega arith)) (turn at-erase-old) (c .before .r .given .1)) (ap (leftFrom (a .image .now) (a .places .now) (a .sorted .now)) e),
     )
 
 same-length-2 : tie.Need-same-length-2 Inv-loop μ-loop

@@ -17,17 +17,21 @@ returns c = sym (takes-none _ _ _ (sym (c .before .is-index .ensures) ∙ not-tr
 
 returns-2 : tie.Need-returns-2
 returns-2 c =
-    let a = c .before .before .before .before .before .before .before .args in
+    let entered = c .before .before .before .before .before .before .before in
+    let a = entered .args in
     let k = itemAt (a .image .now) (a .kept) in
     sym (takes-kept _ _ _ (ap (λ (n : ℕ). indexFrom n (k .raw)) (sym (c .before .before .start-at .ensures)) ∙ sym (c .before .is-start .ensures) ∙ c .if2 .taken))
 
 returns-3 : tie.Need-returns-3
 returns-3 c =
-    let a = c .before .before .before .before .before .before .before .before .args in
+    let at-if1 = c .before .before .before .before in
+    let at-is-index = at-if1 .before in
+    let entered = at-is-index .before .before .before in
+    let a = entered .args in
     let k = itemAt (a .image .now) (a .kept) in
     let before = itemsAt (a .image .now) (a .before .now) in
     ap not (c .any-start .ensures ∙ ap (λ (n : ℕ). some-of (λ (y : Found). indexFrom n (y .raw)) before) (c .before .before .before .start-at .ensures))
-    ∙ sym (takes-else before k (itemAt (a .image .now) (a .place)) (sym (c .before .before .before .before .before .is-index .ensures) ∙ not-false _ (c .before .before .before .before .if1 .left)) (ap (λ (n : ℕ). indexFrom n (k .raw)) (sym (c .before .before .before .start-at .ensures)) ∙ sym (c .before .before .is-start .ensures) ∙ c .before .if2 .left))
+    ∙ sym (takes-else before k (itemAt (a .image .now) (a .place)) (sym (at-is-index .is-index .ensures) ∙ not-false _ (at-if1 .if1 .left)) (ap (λ (n : ℕ). indexFrom n (k .raw)) (sym (c .before .before .before .start-at .ensures)) ∙ sym (c .before .before .is-start .ensures) ∙ c .before .if2 .left))
 
 pub takes-chunks-spec : {M : Type 1} → statement M
 takes-chunks-spec =

@@ -39,15 +39,19 @@ test c =
 
 loop-again : tie.Need-loop-again Inv-loop μ-loop
 loop-again c =
-    let l = c .before .before .before .before .loop in
-    let a = c .before .before .before .before .before .before .before .args in
+    let at-loop = c .before .before .before .before in
+    let entered = at-loop .before .before .before in
+    let l = at-loop .loop in
+    let a = entered .args in
     let upto : l .i ≤ length (a .places .now) = omega (arith, l .inv .0) in
     (omega (arith, l .inv .0), l .inv .1 ∙ ap length (sym (keep-past (a .image .now) (a .places .now) (l .i) (c .before .before .before .loop-test .taken) upto (λ (x : Found). isChunk (x .raw)) (test (c .before) ∙ not-true _ (c .if1 .taken)))))
 
 loop-again-2 : tie.Need-loop-again-2 Inv-loop μ-loop
 loop-again-2 c =
-    let l = c .before .before .before .before .loop in
-    let a = c .before .before .before .before .before .before .before .args in
+    let at-loop = c .before .before .before .before in
+    let entered = at-loop .before .before .before in
+    let l = at-loop .loop in
+    let a = entered .args in
     let upto : l .i ≤ length (a .places .now) = omega (arith, l .inv .0) in
     let one = ap length (keep-more (a .image .now) (a .places .now) (l .i) (c .before .before .before .loop-test .taken) upto (λ (x : Found). isChunk (x .raw)) (test (c .before) ∙ not-false _ (c .if1 .left))) in
     (omega (arith, l .inv .0, c .before .before .before .loop-test .taken), omega (arith, l .inv .1, one))

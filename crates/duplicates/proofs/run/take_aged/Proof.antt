@@ -19,8 +19,10 @@ erase-all-old-requires c κs =
 returns : tie.Need-returns
 unfolding agedSteps
 returns c =
-    let a = c .before .before .before .before .before .before .before .before .before .args in
-    let count = c .before .before .before .before .before .count-chunks in
+    let at-count-chunks = c .before .before .before .before .before in
+    let entered = at-count-chunks .before .before .before .before in
+    let a = entered .args in
+    let count = at-count-chunks .count-chunks in
     let places = a .places .now in
     let l = a .image .now in
     let fs = itemsAt l places in

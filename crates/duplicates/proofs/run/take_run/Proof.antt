@@ -37,23 +37,31 @@ namespace-at-requires c κs =
 
 returns-2 : tie.Need-returns-2
 returns-2 c =
-    let a = c .before .before .before .before .before .before .before in
+    let at-slice-known = c .before .before .before .before .before .before in
+    let a = at-slice-known .before in
     let l = a .args .image .now in
     let ps = take (a .args .m) (a .args .s .now) in
     let first = getD (a .args .s .now) 0 0 in
-    let small : (i : ℕ) → getD l i 0 < 256 = λ i. omega (arith, c .before .before .before .before .before .before .slice-known .given i) in
+    let small : (i : ℕ) → getD l i 0 < 256 = λ i. omega (arith, at-slice-known .slice-known .given i) in
     let none : namespaceOf (itemAt l first .raw) ≡ 0 = omega (arith, c .before .namespace-at .ensures, c .if2 .taken) in
     (rw (run-free (itemsAt l ps) (λ x m. same-space l small ps first (a .pre .4) x m ∙ none)) (did-none _ _), alike-refl _, refl)
 
 -- the places in order of age
-by-age : (c : tie.After-take-aged-arg2) → let a = c .before .before .before .before .before .before .before .before .before .before .before .before .before .before .args in
-    take (a .m) (c .before .before .before .before .sort .last .1 .0) ≡ sortBy (below (rankAt (a .image .now) Age)) (take (a .m) (a .s .now))
+by-age : (c : tie.After-take-aged-arg2) →
+    let at-sort = c .before .before .before .before in
+    let entered = at-sort .before .before .before .before .before .before .before .before .before .before in
+    let a = entered .args in
+    take (a .m) (at-sort .sort .last .1 .0) ≡ sortBy (below (rankAt (a .image .now) Age)) (take (a .m) (a .s .now))
 by-age c =
-    let a = c .before .before .before .before .before .before .before .before .before .before .before .before .before .before in
-    front-sorted (below (rankAt (a .args .image .now) Age)) 2016 (a .args .m) (a .args .s .now) (c .before .before .before .before .sort .last .1 .0) (a .pre .2) (omega (arith, a .pre .3)) (c .before .before .before .before .sort .ensures)
+    let at-sort = c .before .before .before .before in
+    let a = at-sort .before .before .before .before .before .before .before .before .before .before in
+    front-sorted (below (rankAt (a .args .image .now) Age)) 2016 (a .args .m) (a .args .s .now) (at-sort .sort .last .1 .0) (a .pre .2) (omega (arith, a .pre .3)) (at-sort .sort .ensures)
 
 slice-aggregate-take-aged : tie.Need-slice-aggregate-take-aged
-slice-aggregate-take-aged c = let a = c .before .before .before .before .before .before .before .before .before .before .before .before .before .before in sym (length-take-le (a .args .m) (c .before .before .before .before .sort .last .1 .0) (omega (arith, a .pre .3, c .before .before .before .s .given)))
+slice-aggregate-take-aged c =
+    let at-sort = c .before .before .before .before in
+    let a = at-sort .before .before .before .before .before .before .before .before .before .before in
+    sym (length-take-le (a .args .m) (at-sort .sort .last .1 .0) (omega (arith, a .pre .3, c .before .before .before .s .given)))
 
 take-aged-requires : tie.Need-take-aged-requires
 take-aged-requires c κs =
@@ -64,13 +72,16 @@ take-aged-requires c κs =
 returns-3 : tie.Need-returns-3
 returns-3 c =
     let b = c .before .before .before in
-    let a = b .before .before .before .before .before .before .before .before .before .before .before .before .before .before in
+    let at-if2 = b .before .before .before .before .before .before .before in
+    let at-namespace-at = at-if2 .before in
+    let at-slice = at-namespace-at .before .before .before .before .before in
+    let a = at-slice .before in
     let l = a .args .image .now in
     let m = a .args .m in
     let s = a .args .s .now in
     let first = getD s 0 0 in
-    let small : (i : ℕ) → getD l i 0 < 256 = λ i. omega (arith, b .before .before .before .before .before .before .before .before .before .before .before .before .before .slice-known .given i) in
-    let named : 1 ≤ namespaceOf (itemAt l first .raw) = omega (arith, b .before .before .before .before .before .before .before .before .namespace-at .ensures, b .before .before .before .before .before .before .before .if2 .left) in
+    let small : (i : ℕ) → getD l i 0 < 256 = λ i. omega (arith, at-slice .slice-known .given i) in
+    let named : 1 ≤ namespaceOf (itemAt l first .raw) = omega (arith, at-namespace-at .namespace-at .ensures, at-if2 .if2 .left) in
     let turn = c .before .before .take-aged .ensures in (
       rw (by-age b, run-of-aged l small (take m s) first (a .pre .4) named) at (turn .0),
       turn .1,

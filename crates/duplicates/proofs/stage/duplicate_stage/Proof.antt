@@ -40,12 +40,18 @@ unfolding duplicateStage
 returns c = goes-stop _ (goes-start _ _ _) refl (erased (c .before .before .before .before .before .before)) (c .enum-told .given .1)
 
 make-last-marks-requires : tie.Need-make-last-marks-requires
-make-last-marks-requires c κs = let a = c .before .before .before .before .before .before .before .before .before .before .before .before .before in (a .pre .0, rw (c .before .before .before .before .before .before .before .before .make-duplicates .ensures .1 .size) (a .pre .1))
+make-last-marks-requires c κs =
+    let at-make-duplicates = c .before .before .before .before .before .before .before .before in
+    let a = at-make-duplicates .before .before .before .before .before in
+    (a .pre .0, rw (at-make-duplicates .make-duplicates .ensures .1 .size) (a .pre .1))
 
 returns-2 : tie.Need-returns-2
 unfolding duplicateStage
 returns-2 c =
-    goes-last (goes-then (lastMarks (listed (c .before .before .before .before .before .before .before .before .before .before .before .before .before .before .before .before .args .table))) (goes-start _ _ _) refl (erased (c .before .before .before .before .before .before .before .before .before .before .before)) (c .before .before .before .before .before .r .given .1)) (c .before .before .make-last-marks .ensures)
+    let at-r = c .before .before .before .before .before in
+    let at-make-duplicates = at-r .before .before .before .before .before .before in
+    let entered = at-make-duplicates .before .before .before .before .before in
+    goes-last (goes-then (lastMarks (listed (entered .args .table))) (goes-start _ _ _) refl (erased at-make-duplicates) (at-r .r .given .1)) (c .before .before .make-last-marks .ensures)
 
 pub duplicate-stage-spec : {M : Type 1} → statement M
 duplicate-stage-spec =

@@ -16,11 +16,15 @@ use Rattle.duplicates.proofs.stage.make_duplicates.Statement.{statement
 use Rattle.duplicates.proofs.stage.make_duplicates.Tie as tie
 
 -- the places after the sort
-by-group : (c : tie.After-take-runs-arg2) → let a = c .before .before .before .before .before .before .before .before .before .args in
-    take (a .n) (c .before .before .before .before .sort .last .1 .0) ≡ sortBy (below (rankAt (a .image .now) Group)) (take (a .n) (a .room .now))
+by-group : (c : tie.After-take-runs-arg2) →
+    let at-sort = c .before .before .before .before in
+    let entered = at-sort .before .before .before .before .before in
+    let a = entered .args in
+    take (a .n) (at-sort .sort .last .1 .0) ≡ sortBy (below (rankAt (a .image .now) Group)) (take (a .n) (a .room .now))
 by-group c =
-    let a = c .before .before .before .before .before .before .before .before .before in
-    front-sorted (below (rankAt (a .args .image .now) Group)) 2016 (a .args .n) (a .args .room .now) (c .before .before .before .before .sort .last .1 .0) (a .pre .1) (omega (arith, a .pre .1, a .pre .2)) (c .before .before .before .before .sort .ensures)
+    let at-sort = c .before .before .before .before in
+    let a = at-sort .before .before .before .before .before in
+    front-sorted (below (rankAt (a .args .image .now) Group)) 2016 (a .args .n) (a .args .room .now) (at-sort .sort .last .1 .0) (a .pre .1) (omega (arith, a .pre .1, a .pre .2)) (at-sort .sort .ensures)
 
 take-runs-requires : tie.Need-take-runs-requires
 take-runs-requires c κs =
@@ -31,10 +35,11 @@ take-runs-requires c κs =
 returns : tie.Need-returns
 returns c =
     let b = c .before .before .before .before .before in
-    let a = b .before .before .before .before .before .before .before .before .before in
+    let at-slice = b .before .before .before .before .before .before .before .before in
+    let a = at-slice .before in
     let l = a .args .image .now in
     let ps = take (a .args .n) (a .args .room .now) in
-    let small : (i : ℕ) → getD l i 0 < 256 = λ i. omega (arith, b .before .before .before .before .before .before .before .before .slice-known .given i) in
+    let small : (i : ℕ) → getD l i 0 < 256 = λ i. omega (arith, at-slice .slice-known .given i) in
     let turn = c .before .before .before .before .take-runs .ensures in
     (rw (by-group b, sorted-items l ps, steps-by-runs (itemsAt l ps) (items-keys l ps small)) at (turn .0), turn .1)
 

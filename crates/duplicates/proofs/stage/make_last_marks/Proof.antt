@@ -29,8 +29,9 @@ loop-holds c = (omega arith, marked-none _, goes-start _ _ _)
 
 loop-again : tie.Need-loop-again Inv-loop μ-loop
 loop-again c =
-    let l = c .before .before .before .before .before .loop in
-    let a = c .before .before .before .before .before .before .before in
+    let at-loop = c .before .before .before .before .before in
+    let a = at-loop .before .before in
+    let l = at-loop .loop in
     let t = a .args .t2 in (
       omega arith,
       l .inv .1,
@@ -42,52 +43,70 @@ loop-again c =
 
 empty-in-requires : tie.Need-empty-in-requires Inv-loop μ-loop
 empty-in-requires c κs =
-    let l = c .before .before .before .before .before .before .before .loop in
-    let a = c .before .before .before .before .before .before .before .before .before in
+    let at-loop = c .before .before .before .before .before .before .before in
+    let a = at-loop .before .before in
+    let l = at-loop .loop in
     let t = a .args .t2 in
     page-fits (a .args .image .now) (l .image) (a .pre .1) (l .inv .1 .size) _ (in-front (t .pages) (t .count) (l .i) _ (a .pre .0 .list) (omega arith))
 
 loop-again-2 : tie.Need-loop-again-2 Inv-loop μ-loop
 loop-again-2 c =
-    let l = c .before .before .before .before .before .before .before .before .before .loop in
-    let a = c .before .before .before .before .before .before .before .before .before .before .before in
+    let at-if1 = c .before .before .before .before in
+    let at-is-active = at-if1 .before in
+    let at-loop = at-is-active .before .before .before .before in
+    let a = at-loop .before .before in
+    let l = at-loop .loop in
     let t = a .args .t2 in (
       omega arith,
       l .inv .1,
       goes-same (l .inv .2) (
           ap (λ (ps : List Page). lastMarks ps (a .args .image .now)) (element (t .pages) (t .count) (a .pre .0 .list) (l .i) _ (omega arith))
-          ∙ mark-roomy _ _ _ (sym (c .before .before .before .before .before .is-active .ensures) ∙ not-false _ (c .before .before .before .before .if1 .left)) (ne-eqb _ _ (λ q. c .if2 .taken (c .before .empty-in .ensures ∙ l .inv .1 .room _ ∙ q)))
+          ∙ mark-roomy _ _ _ (sym (at-is-active .is-active .ensures) ∙ not-false _ (at-if1 .if1 .left)) (ne-eqb _ _ (λ q. c .if2 .taken (c .before .empty-in .ensures ∙ l .inv .1 .room _ ∙ q)))
           ),
     )
 
 mark-full-requires : tie.Need-mark-full-requires Inv-loop μ-loop
 mark-full-requires c κs =
-    let l = c .before .before .before .before .before .before .before .before .before .before .before .loop in
-    let a = c .before .before .before .before .before .before .before .before .before .before .before .before .before in
+    let at-loop-test = c .before .before .before .before .before .before .before .before .before .before in
+    let at-loop = at-loop-test .before in
+    let a = at-loop .before .before in
+    let l = at-loop .loop in
     let t = a .args .t2 in
-    page-fits (a .args .image .now) (l .image) (a .pre .1) (l .inv .1 .size) _ (in-front (t .pages) (t .count) (l .i) _ (a .pre .0 .list) (omega arith))
+    page-fits (a .args .image .now) (l .image) (a .pre .1) (l .inv .1 .size) _ (in-front (t .pages) (t .count) (l .i) _ (a .pre .0 .list) (omega (arith, at-loop-test .loop-test .taken)))
 
 returns : tie.Need-returns Inv-loop μ-loop
 returns c =
-    let l = c .before .before .before .before .before .before .before .before .before .before .before .before .before .before .before .before .loop in
-    let a = c .before .before .before .before .before .before .before .before .before .before .before .before .before .before .before .before .before .before in
+    let at-mark-full = c .before .before .before .before in
+    let at-if2 = at-mark-full .before .before .before in
+    let at-empty-in = at-if2 .before in
+    let at-if1 = at-empty-in .before .before .before in
+    let at-is-active = at-if1 .before in
+    let at-loop = at-is-active .before .before .before .before in
+    let a = at-loop .before .before in
+    let l = at-loop .loop in
     let t = a .args .t2 in
     goes-stop _ (l .inv .2) (
     ap (λ (ps : List Page). lastMarks ps (a .args .image .now)) (element (t .pages) (t .count) (a .pre .0 .list) (l .i) _ (omega arith))
-    ∙ mark-more _ _ _ (sym (c .before .before .before .before .before .before .before .before .before .before .before .before .is-active .ensures) ∙ not-false _ (c .before .before .before .before .before .before .before .before .before .before .before .if1 .left)) (eq-eqb _ _ (sym (l .inv .1 .room _) ∙ sym (c .before .before .before .before .before .before .before .before .empty-in .ensures) ∙ c .before .before .before .before .before .before .before .if2 .left))
-    ) (c .before .before .before .before .mark-full .ensures) (c .enum-told .given .1)
+    ∙ mark-more _ _ _ (sym (at-is-active .is-active .ensures) ∙ not-false _ (at-if1 .if1 .left)) (eq-eqb _ _ (sym (l .inv .1 .room _) ∙ sym (at-empty-in .empty-in .ensures) ∙ at-if2 .if2 .left))
+    ) (at-mark-full .mark-full .ensures) (c .enum-told .given .1)
 
 loop-again-3 : tie.Need-loop-again-3 Inv-loop μ-loop
 loop-again-3 c =
-    let l = c .before .before .before .before .before .before .before .before .before .before .before .before .before .before .before .before .before .loop in
-    let a = c .before .before .before .before .before .before .before .before .before .before .before .before .before .before .before .before .before .before .before in
+    let at-mark-full = c .before .before .before .before .before in
+    let at-if2 = at-mark-full .before .before .before in
+    let at-empty-in = at-if2 .before in
+    let at-if1 = at-empty-in .before .before .before in
+    let at-is-active = at-if1 .before in
+    let at-loop = at-is-active .before .before .before .before in
+    let a = at-loop .before .before in
+    let l = at-loop .loop in
     let t = a .args .t2 in (
       omega arith,
-      marked-more _ (c .before .before .before .before .before .mark-full .ensures) (l .inv .1),
+      marked-more _ (at-mark-full .mark-full .ensures) (l .inv .1),
       goes-on (l .inv .2) (
           ap (λ (ps : List Page). lastMarks ps (a .args .image .now)) (element (t .pages) (t .count) (a .pre .0 .list) (l .i) _ (omega arith))
-          ∙ mark-more _ _ _ (sym (c .before .before .before .before .before .before .before .before .before .before .before .before .before .is-active .ensures) ∙ not-false _ (c .before .before .before .before .before .before .before .before .before .before .before .before .if1 .left)) (eq-eqb _ _ (sym (l .inv .1 .room _) ∙ sym (c .before .before .before .before .before .before .before .before .before .empty-in .ensures) ∙ c .before .before .before .before .before .before .before .before .if2 .left))
-          ) (c .before .before .before .before .before .mark-full .ensures) (c .before .r .given .1),
+          ∙ mark-more _ _ _ (sym (at-is-active .is-active .ensures) ∙ not-false _ (at-if1 .if1 .left)) (eq-eqb _ _ (sym (l .inv .1 .room _) ∙ sym (at-empty-in .empty-in .ensures) ∙ at-if2 .if2 .left))
+          ) (at-mark-full .mark-full .ensures) (c .before .r .given .1),
     )
 
 same-length-2 : tie.Need-same-length-2 Inv-loop μ-loop

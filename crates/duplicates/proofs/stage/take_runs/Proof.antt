@@ -33,17 +33,20 @@ loop-holds c = (alike-refl _, refl, omega arith, refl, goes-start _ _ _)
 
 run-end-requires : tie.Need-run-end-requires Inv-loop μ-loop
 run-end-requires c κs =
-    let l = c .before .before .before .before .loop in
-    let a = c .before .before .before .before .before .before .before in (
+    let at-loop = c .before .before .before .before in
+    let a = at-loop .before .before .before in
+    let l = at-loop .loop in (
       placed-left (a .args .image .now) (l .image) (a .args .room .now) (l .room) (a .args .n) (l .a) (l .inv .0) (l .inv .3) (a .pre .0),
       rw (length-take-le (a .args .n - l .a) (drop (l .a) (l .room)) (rw (length-drop (l .a) (l .room)) (omega (arith, l .inv .1, l .inv .2, a .pre .1, a .pre .2)))) (omega (arith, c .before .before .before .loop-test .taken)),
     )
 
 take-run-requires : tie.Need-take-run-requires Inv-loop μ-loop
 take-run-requires c κs =
-    let l = c .before .before .before .before .before .before .before .loop in
-    let a = c .before .before .before .before .before .before .before .before .before .before in
-    let more = c .before .before .before .before .before .before .loop-test .taken in
+    let at-loop-test = c .before .before .before .before .before .before in
+    let at-loop = at-loop-test .before in
+    let a = at-loop .before .before .before in
+    let l = at-loop .loop in
+    let more = at-loop-test .loop-test .taken in
     let image = a .args .image .now in
     let t = a .args .room .now in
     let n = a .args .n in
@@ -59,14 +62,17 @@ take-run-requires c κs =
 
 returns : tie.Need-returns Inv-loop μ-loop
 returns c =
-    let l = c .before .before .before .before .before .before .before .before .before .before .before .before .before .before .loop in
-    let a = c .before .before .before .before .before .before .before .before .before .before .before .before .before .before .before .before .before in
+    let at-take-run = c .before .before .before .before .before .before in
+    let at-run-end = at-take-run .before .before .before in
+    let at-loop = at-run-end .before .before .before .before .before in
+    let a = at-loop .before .before .before in
+    let l = at-loop .loop in
     let image = a .args .image .now in
     let t = a .args .room .now in
     let n = a .args .n in
-    let m = c .before .before .before .before .before .before .before .before .before .run-end .result in
-    let run = c .before .before .before .before .before .before .before .before .before .run-end .ensures in
-    let turn = c .before .before .before .before .before .before .take-run .ensures in (
+    let m = at-run-end .run-end .result in
+    let run = at-run-end .run-end .ensures in
+    let turn = at-take-run .take-run .ensures in (
       goes-stop _ (l .inv .4) (steps-left image (l .image) t (l .room) n (l .a) (l .inv .0) (l .inv .3) (a .pre .0) m run)
           (rw (lent (l .room) (l .a), items-run image (l .image) t (l .room) n (l .a) (l .inv .0) (l .inv .3) (a .pre .0) m run) at (turn .0)) (c .enum-told .given .1),
       alike-trans (l .inv .0) (turn .1),
@@ -74,24 +80,30 @@ returns c =
 
 loop-less : tie.Need-loop-less Inv-loop μ-loop
 loop-less c =
-    let run = c .before .before .before .before .before .before .before .before .before .before .run-end .ensures in
-    omega (arith, run .more, c .before .before .before .before .before .before .before .before .before .before .before .before .before .before .loop-test .taken)
+    let at-run-end = c .before .before .before .before .before .before .before .before .before .before in
+    let at-loop-test = at-run-end .before .before .before .before in
+    let run = at-run-end .run-end .ensures in
+    omega (arith, run .more, at-loop-test .loop-test .taken)
 
 loop-again : tie.Need-loop-again Inv-loop μ-loop
 loop-again c =
-    let l = c .before .before .before .before .before .before .before .before .before .before .before .before .before .before .before .loop in
-    let a = c .before .before .before .before .before .before .before .before .before .before .before .before .before .before .before .before .before .before in
+    let at-room2 = c .before .before .before .before in
+    let at-take-run = at-room2 .before .before .before in
+    let at-run-end = at-take-run .before .before .before in
+    let at-loop = at-run-end .before .before .before .before .before in
+    let a = at-loop .before .before .before in
+    let l = at-loop .loop in
     let image = a .args .image .now in
     let t = a .args .room .now in
     let n = a .args .n in
     let s = l .room in
     let at = l .a in
-    let m = c .before .before .before .before .before .before .before .before .before .before .run-end .result in
-    let run = c .before .before .before .before .before .before .before .before .before .before .run-end .ensures in
-    let turn = c .before .before .before .before .before .before .before .take-run .ensures in
-    let last = c .before .before .before .before .before .before .before .take-run .last .1 .0 in
+    let m = at-run-end .run-end .result in
+    let run = at-run-end .run-end .ensures in
+    let turn = at-take-run .take-run .ensures in
+    let last = at-take-run .take-run .last .1 .0 in
     let few = fits image (l .image) t s n at (l .inv .0) (l .inv .3) (a .pre .0) m run in
-    let enough : length last ≡ length s - at = c .before .before .before .before .room2 .given .0 ∙ mid-len at (length s) s (omega arith) in
+    let enough : length last ≡ length s - at = at-room2 .room2 .given .0 ∙ mid-len at (length s) s (omega arith) in
     let behind : drop m (take 2016 (drop at (putMid at (length s - at) s last))) ≡ drop m (take 2016 (drop at s)) =
     ap (drop m) (behind-put at (length s - at) s last (omega (arith, l .inv .1, l .inv .2, a .pre .1, a .pre .2)) 2016 (omega (arith, enough, l .inv .1, l .inv .2, a .pre .1, a .pre .2))) ∙ (rw (lent s at) at (turn .2)) in (
       alike-trans (l .inv .0) (turn .1),

@@ -20,7 +20,8 @@ returns-2 c =
 
 returns-3 : tie.Need-returns-3
 returns-3 c =
-    let x = c .before .before .before .before .before .before .before .before .args in
+    let entered = c .before .before .before .before .before .before .before .before in
+    let x = entered .args in
     ltb-agree (x .a .low) (x .b .low) (keyNumber (x .a)) (keyNumber (x .b)) (omega arith) (omega arith)
 
 pub key-less-spec : {M : Type 1} → statement M

@@ -16,11 +16,11 @@ returns : tie.Need-returns
 unfolding newestHolds
 returns c =
     let k = c .before .before in
-    let e = sought-nothing (newest (listed (k .before .before .args .lists))) (sym (c .enum-told .given .1) ∙ k .newest-page .ensures) in
+    let e = sought-nothing (newest (listed (k .before .before .args .table))) (sym (c .enum-told .given .1) ∙ k .newest-page .ensures) in
     rw e
 
 -- a page is the newest
-found : (k : tie.After-known-told) → newest (listed (k .before .before .before .before .before .args .lists)) ≡ some (k .before .y .given .0 .0)
+found : (k : tie.After-known-told) → newest (listed (k .before .before .before .before .before .args .table)) ≡ some (k .before .y .given .0 .0)
 found k = sought-found _ _ (sym (k .before .y .given .1) ∙ k .before .before .before .newest-page .ensures)
 
 returns-2 : tie.Need-returns-2
@@ -33,7 +33,7 @@ matches-requires c κs =
     let k = c .before .before .before .before .before .before .before in
     let a = k .before .before .before .before .before in
     let l = a .args .image .now in
-    (a .pre .0, a .pre .3, page-fits l l (a .pre .2) refl _ (best-in noOlderPage (listed (a .args .lists)) _ (found k)))
+    (a .pre .0, a .pre .3, page-fits l l (a .pre .2) refl _ (best-in noOlderPage (listed (a .args .table)) _ (found k)))
 
 returns-3 : tie.Need-returns-3
 unfolding newestHolds

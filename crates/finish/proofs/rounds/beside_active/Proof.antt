@@ -15,7 +15,7 @@ matches-requires : tie.Need-matches-requires
 matches-requires c κs =
     let s = c .before .before .before .before in
     let l = s .args .image .now in
-    (s .pre .0, page-fits l l (s .pre .2) refl (s .args .y) (inr (first-member activePage (listed (s .args .lists)) (s .args .y) (s .pre .3))), page-fits l l (s .pre .2) refl (s .args .x) (inl refl))
+    (s .pre .0, page-fits l l (s .pre .2) refl (s .args .y) (inr (first-member activePage (listed (s .args .table)) (s .args .y) (s .pre .3))), page-fits l l (s .pre .2) refl (s .args .x) (inl refl))
 
 returns : tie.Need-returns
 unfolding roundWith

@@ -40,7 +40,7 @@ returns c =
     let s = c .before .before .before .before in
     let t = s .args .t4 in
     let q : getLast? (freed t) ≡ none = ap (λ (k : ℕ). getLast? (take k (t .free))) (c .before .before .if1 .taken) in
-    rw q (record { did = did-none _ _; lists = λ k e. rw (c .before .as-full .ensures) at (c .prepend-page .ensures) })
+    rw q (record { did = did-none _ _; table = λ k e. rw (c .before .as-full .ensures) at (c .prepend-page .ensures) })
 
 -- the target is a free sector
 free : (s : tie.Else1) → let t = s .before .before .args .t4 in getD (t .free) (t .«free_count» - 1) 0 ∈ freed t
@@ -76,19 +76,26 @@ moved m =
     let e : m .before .before .before .larger .result + 1 ≡ nextSequence (a .x) (listed (a .t4)) = omega (arith, m .before .before .before .larger .ensures, m .before .before .before .before .greatest-sequence .ensures) in
     rw e at (m .move-page .ensures)
 
-kept : (m : tie.After-move-page) → length (m .move-page .last .1 .0) ≡ length (m .before .before .before .before .before .before .before .before .before .args .image .now)
+kept : (m : tie.After-move-page)
+    → let a = m .before .before .before .before .before .before .before .before .before .args in
+    length (m .move-page .last .1 .0) ≡ length (a .image .now)
 kept m = ap length (moved m .image) ∙ length-run _ _
 
 mul-a : tie.Need-mul-a
-mul-a c = let h = fits (c .before .before .before .before .before .before .before .before .before) in omega arith
+mul-a c =
+    let entered = c .before .before .before .before .before .before .before .before .before in
+    let h = fits entered in omega arith
 
 add-e : tie.Need-add-e
-add-e c = let h = fits (c .before .before .before .before .before .before .before .before .before) in omega arith
+add-e c =
+    let entered = c .before .before .before .before .before .before .before .before .before in
+    let h = fits entered in omega arith
 
 part-page-record-end : tie.Need-part-page-record-end
 part-page-record-end c =
     let m = c .before .before .before in
-    let h = fits (m .before .before .before .before .before .before .before) in
+    let started = m .before .before .before .before .before .before .before in
+    let h = fits started in
     let k = kept m in
     omega arith
 
@@ -117,7 +124,7 @@ returns-2 c =
     rw q (
     record {
       did = moved m;
-      lists = λ k e.
+      table = λ k e.
           let i = did-all (rw e at (moved m)) in
           let j = c .join-free .ensures .0 in
           let f = c .before .append-page .ensures in

@@ -18,8 +18,8 @@ use Rattle.finish.proofs.rounds.erase_copy.Statement.{statement}
 use Rattle.finish.proofs.rounds.erase_copy.Tie as tie
 
 -- the copy is listed
-copy-in : (s : tie.Start) → s .args .y ∈ listed (s .args .lists)
-copy-in s = first-member activePage (listed (s .args .lists)) (s .args .y) (s .pre .3)
+copy-in : (s : tie.Start) → s .args .y ∈ listed (s .args .table)
+copy-in s = first-member activePage (listed (s .args .table)) (s .args .y) (s .pre .3)
 
 join-free-requires : tie.Need-join-free-requires
 join-free-requires c κs =
@@ -51,7 +51,7 @@ copy-afresh-requires c κs =
       s .pre .0,
       f .sized,
       rw (f .list, f .free, o .list, o .free, e) (freed-placed (s .args .x) (s .args .y) (s .pre .2) (copy-in s)),
-      rw (f .list, o .list) (next-out (inSector (s .args .y .sector)) (s .args .x) (listed (s .args .lists)) (s .pre .4)),
+      rw (f .list, o .list) (next-out (inSector (s .args .y .sector)) (s .args .x) (listed (s .args .table)) (s .pre .4)),
     )
 
 returns-2 : tie.Need-returns-2

@@ -15,8 +15,8 @@ use Rattle.finish.proofs.rounds.round.Statement.{statement}
 use Rattle.finish.proofs.rounds.round.Tie as tie
 
 -- the source is listed
-source-in : (s : tie.Start) → s .args .x ∈ listed (s .args .lists)
-source-in s = first-member freeingPage (listed (s .args .lists)) (s .args .x) (s .pre .3)
+source-in : (s : tie.Start) → s .args .x ∈ listed (s .args .table)
+source-in s = first-member freeingPage (listed (s .args .table)) (s .args .x) (s .pre .3)
 
 without-active-requires : tie.Need-without-active-requires
 without-active-requires c κs =
@@ -25,7 +25,7 @@ without-active-requires c κs =
       s .pre .0,
       o .sized,
       rw (o .list, o .free) (apart-placed (s .args .x) (s .pre .2) (source-in s)),
-      rw (o .list) (next-below (inSector (s .args .x .sector)) (s .args .x) (listed (s .args .lists)) (source-in s) (s .pre .4)),
+      rw (o .list) (next-below (inSector (s .args .x .sector)) (s .args .x) (listed (s .args .table)) (source-in s) (s .pre .4)),
     )
 
 returns : tie.Need-returns
@@ -34,7 +34,7 @@ returns c =
     let w = c .before .before in
     let f = w .before .before .before .before in
     let o = f .before .take-out .ensures .0 in
-    let ps = takeOut (inSector (f .before .before .before .args .x .sector)) (listed (f .before .before .before .args .lists)) in
+    let ps = takeOut (inSector (f .before .before .before .args .x .sector)) (listed (f .before .before .before .args .table)) in
     let e : firstOf activePage ps ≡ none =
     ap (firstOf activePage) (sym (o .list)) ∙ sym (first-same (inState Active) activePage active-is _) ∙ sought-nothing _ (sym (w .before .before .enum-told .given .1) ∙ f .first-in .ensures) in
     rw e (rw (o .list, o .free) at (w .without-active .ensures))
@@ -48,7 +48,7 @@ beside-active-requires c κs =
       o .sized,
       rw (o .list, o .free) (apart-placed (s .args .x) (s .pre .2) (source-in s)),
       sym (first-same (inState Active) activePage active-is _) ∙ sought-found _ _ (sym (c .before .before .y .given .1) ∙ f .first-in .ensures),
-      rw (o .list) (next-below (inSector (s .args .x .sector)) (s .args .x) (listed (s .args .lists)) (source-in s) (s .pre .4)),
+      rw (o .list) (next-below (inSector (s .args .x .sector)) (s .args .x) (listed (s .args .table)) (source-in s) (s .pre .4)),
     )
 
 returns-2 : tie.Need-returns-2
@@ -57,7 +57,7 @@ returns-2 c =
     let w = c .before .before in
     let f = w .before .before .before .before .before in
     let o = f .before .take-out .ensures .0 in
-    let ps = takeOut (inSector (f .before .before .before .args .x .sector)) (listed (f .before .before .before .args .lists)) in
+    let ps = takeOut (inSector (f .before .before .before .args .x .sector)) (listed (f .before .before .before .args .table)) in
     let e : firstOf activePage ps ≡ some (w .before .before .before .y .given .0 .0) =
     ap (firstOf activePage) (sym (o .list)) ∙ sym (first-same (inState Active) activePage active-is _) ∙ sought-found _ _ (sym (w .before .before .before .y .given .1) ∙ f .first-in .ensures) in
     rw e (rw (o .list, o .free) at (w .beside-active .ensures))

@@ -34,15 +34,15 @@ unfolding roundWith
 returns c =
     let b = c .before .before .before .before .before .before in
     let a = b .before .before .before .before .args in
-    let e : newestHolds (a .x) (a .image .now) (newest (listed (a .lists))) ≡ true = sym (b .before .newest-holds .ensures) ∙ b .if1 .taken in
-    rw e (record { did = c .before .before .before .erase-sector .ensures; lists = λ k q. c .join-free .ensures .0 })
+    let e : newestHolds (a .x) (a .image .now) (newest (listed (a .table))) ≡ true = sym (b .before .newest-holds .ensures) ∙ b .if1 .taken in
+    rw e (record { did = c .before .before .before .erase-sector .ensures; table = λ k q. c .join-free .ensures .0 })
 
 returns-2 : tie.Need-returns-2
 unfolding roundWith
 returns-2 c =
     let b = c .before .before .before .before in
     let a = b .before .before .before .before .args in
-    let e : newestHolds (a .x) (a .image .now) (newest (listed (a .lists))) ≡ false = sym (b .before .newest-holds .ensures) ∙ b .if1 .left in
+    let e : newestHolds (a .x) (a .image .now) (newest (listed (a .table))) ≡ false = sym (b .before .newest-holds .ensures) ∙ b .if1 .left in
     rw e (c .before .before .copy-afresh .ensures)
 
 pub without-active-spec : {M : Type 1} → statement M

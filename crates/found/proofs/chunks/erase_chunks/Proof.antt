@@ -42,8 +42,10 @@ is-chunk-of-requires c κs = let h = here (c .before) in rw (h .0) (h .1)
 
 loop-again : tie.Need-loop-again Inv-loop μ-loop
 loop-again c =
-    let l = c .before .before .before .before .before .loop in
-    let a = c .before .before .before .before .before .before .before .before .args in
+    let at-loop = c .before .before .before .before .before in
+    let entered = at-loop .before .before .before in
+    let l = at-loop .loop in
+    let a = entered .args in
     let v = rankNumber (a .v) in
     let h = here (c .before .before .before) in
     let q = getD (a .places .now) (l .i) 0 in
@@ -58,25 +60,39 @@ erase-at-requires c κs = let h = here (c .before .before .before .before .befor
 
 returns : tie.Need-returns Inv-loop μ-loop
 returns c =
-    let l = c .before .before .before .before .before .before .before .before .before .before .before .before .before .loop in
-    let a = c .before .before .before .before .before .before .before .before .before .before .before .before .before .before .before .before .args in
+    let at-erase-at = c .before .before .before .before in
+    let at-span-at = at-erase-at .before .before in
+    let at-if1 = at-span-at .before .before in
+    let at-is-chunk-of = at-if1 .before in
+    let at-place-at = at-is-chunk-of .before .before in
+    let at-loop = at-place-at .before .before in
+    let entered = at-loop .before .before .before in
+    let l = at-loop .loop in
+    let a = entered .args in
     let v = rankNumber (a .v) in
-    let h = here (c .before .before .before .before .before .before .before .before .before .before .before) in
+    let h = here at-place-at in
     let q = getD (a .places .now) (l .i) 0 in
-    let test : chunkOf v (itemAt (a .image .now) q .raw) ≡ true = ap (λ (x : Found). chunkOf v (x .raw)) (sym (h .2)) ∙ ap (λ (p : ℕ). chunkOf v (itemAt (l .image) p .raw)) (sym (h .0)) ∙ sym (c .before .before .before .before .before .before .before .before .before .is-chunk-of .ensures) ∙ not-false _ (c .before .before .before .before .before .before .before .before .if1 .left) in
-    let did = rw (c .before .before .before .before .before .before .span-at .ensures .0, h .0, h .2) at (c .before .before .before .before .erase-at .ensures .0) in
-    (goes-stop _ (l .inv .2) (chunk-more v (a .image .now) (a .places .now) (l .i) (omega arith) test) did (c .enum-told .given .1), alike-trans (l .inv .1) (c .before .before .before .before .erase-at .ensures .1))
+    let test : chunkOf v (itemAt (a .image .now) q .raw) ≡ true = ap (λ (x : Found). chunkOf v (x .raw)) (sym (h .2)) ∙ ap (λ (p : ℕ). chunkOf v (itemAt (l .image) p .raw)) (sym (h .0)) ∙ sym (at-is-chunk-of .is-chunk-of .ensures) ∙ not-false _ (at-if1 .if1 .left) in
+    let did = rw (at-span-at .span-at .ensures .0, h .0, h .2) at (at-erase-at .erase-at .ensures .0) in
+    (goes-stop _ (l .inv .2) (chunk-more v (a .image .now) (a .places .now) (l .i) (omega arith) test) did (c .enum-told .given .1), alike-trans (l .inv .1) (at-erase-at .erase-at .ensures .1))
 
 loop-again-2 : tie.Need-loop-again-2 Inv-loop μ-loop
 loop-again-2 c =
-    let l = c .before .before .before .before .before .before .before .before .before .before .before .before .before .before .loop in
-    let a = c .before .before .before .before .before .before .before .before .before .before .before .before .before .before .before .before .before .args in
+    let at-erase-at = c .before .before .before .before .before in
+    let at-span-at = at-erase-at .before .before in
+    let at-if1 = at-span-at .before .before in
+    let at-is-chunk-of = at-if1 .before in
+    let at-place-at = at-is-chunk-of .before .before in
+    let at-loop = at-place-at .before .before in
+    let entered = at-loop .before .before .before in
+    let l = at-loop .loop in
+    let a = entered .args in
     let v = rankNumber (a .v) in
-    let h = here (c .before .before .before .before .before .before .before .before .before .before .before .before) in
+    let h = here at-place-at in
     let q = getD (a .places .now) (l .i) 0 in
-    let test : chunkOf v (itemAt (a .image .now) q .raw) ≡ true = ap (λ (x : Found). chunkOf v (x .raw)) (sym (h .2)) ∙ ap (λ (p : ℕ). chunkOf v (itemAt (l .image) p .raw)) (sym (h .0)) ∙ sym (c .before .before .before .before .before .before .before .before .before .before .is-chunk-of .ensures) ∙ not-false _ (c .before .before .before .before .before .before .before .before .before .if1 .left) in
-    let did = rw (c .before .before .before .before .before .before .before .span-at .ensures .0, h .0, h .2) at (c .before .before .before .before .before .erase-at .ensures .0) in
-    (omega arith, alike-trans (l .inv .1) (c .before .before .before .before .before .erase-at .ensures .1), goes-on (l .inv .2) (chunk-more v (a .image .now) (a .places .now) (l .i) (omega arith) test) did (c .before .r .given .1))
+    let test : chunkOf v (itemAt (a .image .now) q .raw) ≡ true = ap (λ (x : Found). chunkOf v (x .raw)) (sym (h .2)) ∙ ap (λ (p : ℕ). chunkOf v (itemAt (l .image) p .raw)) (sym (h .0)) ∙ sym (at-is-chunk-of .is-chunk-of .ensures) ∙ not-false _ (at-if1 .if1 .left) in
+    let did = rw (at-span-at .span-at .ensures .0, h .0, h .2) at (at-erase-at .erase-at .ensures .0) in
+    (omega arith, alike-trans (l .inv .1) (at-erase-at .erase-at .ensures .1), goes-on (l .inv .2) (chunk-more v (a .image .now) (a .places .now) (l .i) (omega arith) test) did (c .before .r .given .1))
 
 same-length-2 : tie.Need-same-length-2 Inv-loop μ-loop
 same-length-2 c = c .before .loop .inv .1 .size

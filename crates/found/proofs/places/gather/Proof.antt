@@ -56,17 +56,19 @@ add-places c = omega (arith, lies (c .before .before) .room)
 
 places-requires : tie.Need-places-requires Inv-loop μ-loop
 places-requires c κs =
+    let at-loop = c .before .before .before .before .before in
+    let a = at-loop .before .before .before in
     let q = lies (c .before .before .before) in
-    let a = c .before .before .before .before .before .before .before .before in
-    let u = getD (a .args .t3 .pages) (c .before .before .before .before .before .loop .i) noPage .sector in
+    let u = getD (a .args .t3 .pages) (at-loop .loop .i) noPage .sector in
     let sixteen : a .args .t3 .count ≤ 16 = omega (arith, a .pre .1 .list, a .pre .1 .sixteen) in
     let size : length (take (u * 4096 + 4096 - u * 4096) (drop (u * 4096) (a .args .image .now))) ≡ 4096 = simp (length-take, length-drop) (omega (arith, q .room)) in
-    (a .pre .0, size, omega (arith, q .sixteen), omega (arith, a .pre .3, c .before .before .before .before .before .loop .inv))
+    (a .pre .0, size, omega (arith, q .sixteen), omega (arith, a .pre .3, at-loop .loop .inv))
 
 loop-again : tie.Need-loop-again Inv-loop μ-loop
 loop-again c =
-    let l = c .before .before .before .before .before .before .before .before .loop in
-    let a = c .before .before .before .before .before .before .before .before .before .before .before in
+    let at-loop = c .before .before .before .before .before .before .before .before in
+    let a = at-loop .before .before .before in
+    let l = at-loop .loop in
     let table = a .args .t3 in
     let image = a .args .image .now in
     let p = getD (table .pages) (l .i) noPage in

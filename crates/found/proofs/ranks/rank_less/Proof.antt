@@ -25,7 +25,8 @@ returns-2 c =
 
 returns-3 : tie.Need-returns-3
 returns-3 c =
-    let x = c .before .before .before .before .before .before .before .before .before .args in
+    let entered = c .before .before .before .before .before .before .before .before .before in
+    let x = entered .args in
     let e : x .a .high ≡ x .b .high = omega arith in
     c .key-less .ensures ∙ ltb-shift (x .b .high * 2 ^ 128) _ _ ∙ ap (λ (h : ℕ). ltb (h * 2 ^ 128 + keyNumber (x .a .key)) (rankNumber (x .b))) (sym e)
 

@@ -39,12 +39,17 @@ returns-2 c =
 returns-3 : tie.Need-returns-3
 unfolding isItem rightHeader
 returns-3 c =
-    let k = c .before .before .before .before .before .before .before .before .before .before in
+    let at-if2 = c .before .before .before .before in
+    let at-entry-crc = at-if2 .before in
+    let at-le32 = at-entry-crc .before in
+    let at-if1 = at-le32 .before in
+    let at-entry-state = at-if1 .before in
+    let k = at-entry-state .before .before in
     let s = k .args .s .now in
     let i = k .args .i in
     let h = entryAt s i in
-    let written : stateAt s i ≡ 2 = sym (c .before .before .before .before .before .before .before .before .entry-state .ensures) ∙ c .before .before .before .before .before .before .before .if1 .left in
-    let right : crcIn h ≡ entryCrc h = le-part s (64 + i * 32) 32 4 4 (lit≤ tt) ∙ sym (c .before .before .before .before .before .before .le32 .ensures) ∙ c .before .before .before .before .if2 .left ∙ c .before .before .before .before .before .entry-crc .ensures in
+    let written : stateAt s i ≡ 2 = sym (at-entry-state .entry-state .ensures) ∙ at-if1 .if1 .left in
+    let right : crcIn h ≡ entryCrc h = le-part s (64 + i * 32) 32 4 4 (lit≤ tt) ∙ sym (at-le32 .le32 .ensures) ∙ at-if2 .if2 .left ∙ at-entry-crc .entry-crc .ensures in
     let kind : kindIn h ≡ c .before .before .kind-of .result = ap kindOf (part-byte s (64 + i * 32) 32 1 (lit< tt)) ∙ sym (c .before .before .kind-of .ensures) in
     let told : known (kindIn h) ≡ false = ap known kind ∙ sym (c .before .is-known .ensures) ∙ not-true (c .before .is-known .result) (c .if3 .taken) in
     rw (eq-eqb _ _ written, eq-eqb _ _ right, told)
@@ -52,14 +57,21 @@ returns-3 c =
 returns-4 : tie.Need-returns-4
 unfolding isItem rightHeader
 returns-4 c =
-    let k = c .before .before .before .before .before .before .before .before .before .before .before .before .before in
+    let at-is-known = c .before .before .before .before in
+    let at-kind-of = at-is-known .before in
+    let at-if2 = at-kind-of .before .before in
+    let at-entry-crc = at-if2 .before in
+    let at-le32 = at-entry-crc .before in
+    let at-if1 = at-le32 .before in
+    let at-entry-state = at-if1 .before in
+    let k = at-entry-state .before .before in
     let s = k .args .s .now in
     let i = k .args .i in
     let h = entryAt s i in
-    let written : stateAt s i ≡ 2 = sym (c .before .before .before .before .before .before .before .before .before .before .before .entry-state .ensures) ∙ c .before .before .before .before .before .before .before .before .before .before .if1 .left in
-    let right : crcIn h ≡ entryCrc h = le-part s (64 + i * 32) 32 4 4 (lit≤ tt) ∙ sym (c .before .before .before .before .before .before .before .before .before .le32 .ensures) ∙ c .before .before .before .before .before .before .before .if2 .left ∙ c .before .before .before .before .before .before .before .before .entry-crc .ensures in
-    let kind : kindIn h ≡ c .before .before .before .before .before .kind-of .result = ap kindOf (part-byte s (64 + i * 32) 32 1 (lit< tt)) ∙ sym (c .before .before .before .before .before .kind-of .ensures) in
-    let told : known (kindIn h) ≡ true = ap known kind ∙ sym (c .before .before .before .before .is-known .ensures) ∙ not-false (c .before .before .before .before .is-known .result) (c .before .before .before .if3 .left) in
+    let written : stateAt s i ≡ 2 = sym (at-entry-state .entry-state .ensures) ∙ at-if1 .if1 .left in
+    let right : crcIn h ≡ entryCrc h = le-part s (64 + i * 32) 32 4 4 (lit≤ tt) ∙ sym (at-le32 .le32 .ensures) ∙ at-if2 .if2 .left ∙ at-entry-crc .entry-crc .ensures in
+    let kind : kindIn h ≡ at-kind-of .kind-of .result = ap kindOf (part-byte s (64 + i * 32) 32 1 (lit< tt)) ∙ sym (at-kind-of .kind-of .ensures) in
+    let told : known (kindIn h) ≡ true = ap known kind ∙ sym (at-is-known .is-known .ensures) ∙ not-false (at-is-known .is-known .result) (c .before .before .before .if3 .left) in
     let span : spanOf h ≡ c .before .size .result = part-byte s (64 + i * 32) 32 2 (lit< tt) ∙ sym (c .before .size .ensures .0) in
     let short : spanOf h < 1 = omega (arith, span) in
     rw (eq-eqb _ _ written, eq-eqb _ _ right, told, lt-leb _ _ short)
@@ -67,14 +79,21 @@ returns-4 c =
 returns-5 : tie.Need-returns-5
 unfolding isItem rightHeader
 returns-5 c =
-    let k = c .before .before .before .before .before .before .before .before .before .before .before .before .before in
+    let at-is-known = c .before .before .before .before in
+    let at-kind-of = at-is-known .before in
+    let at-if2 = at-kind-of .before .before in
+    let at-entry-crc = at-if2 .before in
+    let at-le32 = at-entry-crc .before in
+    let at-if1 = at-le32 .before in
+    let at-entry-state = at-if1 .before in
+    let k = at-entry-state .before .before in
     let s = k .args .s .now in
     let i = k .args .i in
     let h = entryAt s i in
-    let written : stateAt s i ≡ 2 = sym (c .before .before .before .before .before .before .before .before .before .before .before .entry-state .ensures) ∙ c .before .before .before .before .before .before .before .before .before .before .if1 .left in
-    let right : crcIn h ≡ entryCrc h = le-part s (64 + i * 32) 32 4 4 (lit≤ tt) ∙ sym (c .before .before .before .before .before .before .before .before .before .le32 .ensures) ∙ c .before .before .before .before .before .before .before .if2 .left ∙ c .before .before .before .before .before .before .before .before .entry-crc .ensures in
-    let kind : kindIn h ≡ c .before .before .before .before .before .kind-of .result = ap kindOf (part-byte s (64 + i * 32) 32 1 (lit< tt)) ∙ sym (c .before .before .before .before .before .kind-of .ensures) in
-    let told : known (kindIn h) ≡ true = ap known kind ∙ sym (c .before .before .before .before .is-known .ensures) ∙ not-false (c .before .before .before .before .is-known .result) (c .before .before .before .if3 .left) in
+    let written : stateAt s i ≡ 2 = sym (at-entry-state .entry-state .ensures) ∙ at-if1 .if1 .left in
+    let right : crcIn h ≡ entryCrc h = le-part s (64 + i * 32) 32 4 4 (lit≤ tt) ∙ sym (at-le32 .le32 .ensures) ∙ at-if2 .if2 .left ∙ at-entry-crc .entry-crc .ensures in
+    let kind : kindIn h ≡ at-kind-of .kind-of .result = ap kindOf (part-byte s (64 + i * 32) 32 1 (lit< tt)) ∙ sym (at-kind-of .kind-of .ensures) in
+    let told : known (kindIn h) ≡ true = ap known kind ∙ sym (at-is-known .is-known .ensures) ∙ not-false (at-is-known .is-known .result) (c .before .before .before .if3 .left) in
     let span : spanOf h ≡ c .before .size .result = part-byte s (64 + i * 32) 32 2 (lit< tt) ∙ sym (c .before .size .ensures .0) in
     let some : 1 ≤ spanOf h = omega (arith, span) in
     rw (eq-eqb _ _ written, eq-eqb _ _ right, told, le-leb _ _ some, span)

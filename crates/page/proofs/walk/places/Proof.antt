@@ -29,8 +29,10 @@ fits-on : (c : tie.After-size Inv-loop μ-loop)
     let i = c .before .before .before .before .before .loop .i in
     (isItem s i ≡ true) × (c .size .result ≡ spanOf (entryAt s i)) × (1 ≤ c .size .result) × (i + c .size .result ≤ 126)
 fits-on c =
-    let s = c .before .before .before .before .before .before .before .before .args .s .now in
-    let i = c .before .before .before .before .before .loop .i in
+    let at-loop = c .before .before .before .before .before in
+    let entered = at-loop .before .before .before in
+    let s = entered .args .s .now in
+    let i = at-loop .loop .i in
     let e : isItem s i ≡ true = sym (c .before .before .before .is-item .ensures) ∙ not-false (c .before .before .before .is-item .result) (c .before .before .if1 .left) in
     let n : c .size .result ≡ spanOf (entryAt s i) = c .size .ensures .0 ∙ sym (part-byte s (64 + i * 32) 32 2 (lit< tt)) in
     let f = item-span s i e in
@@ -55,8 +57,10 @@ loop-less-2 c = let e = fits-on c in omega arith
 
 loop-again-2 : tie.Need-loop-again-2 Inv-loop μ-loop
 loop-again-2 c =
-    let l = c .before .before .before .before .before .loop in
-    let a = c .before .before .before .before .before .before .before .before .args in
+    let at-loop = c .before .before .before .before .before in
+    let entered = at-loop .before .before .before in
+    let l = at-loop .loop in
+    let a = entered .args in
     let e = fits-on c in
     let k : l .k < length (l .out) = omega arith in (
       simp length-set (l .inv .0),

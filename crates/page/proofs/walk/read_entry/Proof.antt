@@ -23,11 +23,15 @@ returns c =
 returns-2 : tie.Need-returns-2
 unfolding readingOf headerOf
 returns-2 c =
-    let s = c .before .before .before .before .before .before .before .before .before .before .before .args .s .now in
-    let i = c .before .before .before .before .before .before .before .before .before .before .before .args .i in
+    let at-kind-of = c .before .before .before .before .before in
+    let at-if1 = at-kind-of .before .before .before in
+    let at-is-item = at-if1 .before in
+    let entered = at-is-item .before .before in
+    let s = entered .args .s .now in
+    let i = entered .args .i in
     let h = entryAt s i in
-    let is : isItem s i ≡ true = sym (c .before .before .before .before .before .before .before .before .before .is-item .ensures) ∙ not-false (c .before .before .before .before .before .before .before .before .before .is-item .result) (c .before .before .before .before .before .before .before .before .if1 .left) in
-    let kind : kindIn h ≡ c .before .before .before .before .before .kind-of .result = ap kindOf (part-byte s (64 + i * 32) 32 1 (lit< tt)) ∙ sym (c .before .before .before .before .before .kind-of .ensures) in
+    let is : isItem s i ≡ true = sym (at-is-item .is-item .ensures) ∙ not-false (at-is-item .is-item .result) (at-if1 .if1 .left) in
+    let kind : kindIn h ≡ at-kind-of .kind-of .result = ap kindOf (part-byte s (64 + i * 32) 32 1 (lit< tt)) ∙ sym (at-kind-of .kind-of .ensures) in
     let span : spanOf h ≡ c .before .before .before .size .result = part-byte s (64 + i * 32) 32 2 (lit< tt) ∙ sym (c .before .before .before .size .ensures .0) in
     let low : getD h 0 0 ≡ getD s (64 + i * 32) 0 = part-byte s (64 + i * 32) 32 0 (lit< tt) ∙ ap (λ (x : ℕ). getD s x 0) (add-zero (64 + i * 32)) in
     let third : getD h 3 0 ≡ getD s (64 + i * 32 + 3) 0 = part-byte s (64 + i * 32) 32 3 (lit< tt) in

@@ -33,7 +33,9 @@ returns c =
     sym e ∙ l .loop .inv .1
 
 has-name-requires : tie.Need-has-name-requires Inv-loop μ-loop
-has-name-requires c κs = c .before .before .before .before .before .before .before .pre .each (c .before .before .before .loop .i) (omega (arith, c .if1 .left))
+has-name-requires c κs =
+    let entered = c .before .before .before .before .before .before .before in
+    entered .pre .each (c .before .before .before .loop .i) (omega (arith, c .if1 .left))
 
 returns-2 : tie.Need-returns-2 Inv-loop μ-loop
 returns-2 c =

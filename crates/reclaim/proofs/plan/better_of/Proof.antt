@@ -19,18 +19,24 @@ returns-2 c = rw (lt-ltb _ _ (c .before .before .if1 .left), c .enum-told .given
 returns-3 : tie.Need-returns-3
 unfolding betterAmong
 returns-3 c =
-    let a = c .before .before .before .before .before .before .before .before .before .args in
-    let q = c .before .before .before .before .best .given .0 .0 in
+    let at-best = c .before .before .before .before in
+    let at-if1 = at-best .before .before in
+    let entered = at-if1 .before .before .before in
+    let a = entered .args in
+    let q = at-best .best .given .0 .0 in
     let fits : points (a .next) (a .p) ≤ points (a .next) q = omega (arith, c .before .before .points-of .ensures, c .before .points-of2 .ensures) in
-    rw (lt-ltb _ _ (c .before .before .before .before .before .before .if1 .left), c .before .before .before .before .best .given .1, le-leb _ _ fits)
+    rw (lt-ltb _ _ (at-if1 .if1 .left), at-best .best .given .1, le-leb _ _ fits)
 
 returns-4 : tie.Need-returns-4
 unfolding betterAmong
 returns-4 c =
-    let a = c .before .before .before .before .before .before .before .before .before .args in
-    let q = c .before .before .before .before .best .given .0 .0 in
+    let at-best = c .before .before .before .before in
+    let at-if1 = at-best .before .before in
+    let entered = at-if1 .before .before .before in
+    let a = entered .args in
+    let q = at-best .best .given .0 .0 in
     let fits : points (a .next) q < points (a .next) (a .p) = omega (arith, c .before .before .points-of .ensures, c .before .points-of2 .ensures) in
-    rw (lt-ltb _ _ (c .before .before .before .before .before .before .if1 .left), c .before .before .before .before .best .given .1, lt-leb _ _ fits)
+    rw (lt-ltb _ _ (at-if1 .if1 .left), at-best .best .given .1, lt-leb _ _ fits)
 
 pub better-of-spec : {M : Type 1} → statement M
 better-of-spec =

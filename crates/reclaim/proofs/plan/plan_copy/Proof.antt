@@ -26,24 +26,24 @@ returns : tie.Need-returns
 unfolding planTo
 returns c =
     let a = c .before .before .before .args in
-    let e : getLast? (freed (a .t)) ≡ none = none-of (getLast? (freed (a .t))) (sym (c .before .before .last-free .ensures) ∙ c .enum-told .given .1) in
+    let e : getLast? (freed (a .table)) ≡ none = none-of (getLast? (freed (a .table))) (sym (c .before .before .last-free .ensures) ∙ c .enum-told .given .1) in
     rw e
 
 returns-2 : tie.Need-returns-2
 unfolding planTo
 returns-2 c =
     let a = c .before .before .before .before .before .args in
-    let e : getLast? (freed (a .t)) ≡ some (c .before .before .target .given .0 .0) = some-of-it (getLast? (freed (a .t))) _ (sym (c .before .before .before .before .last-free .ensures) ∙ c .before .before .target .given .1) in
-    let h : 0xFFFF_FFFD < greatest sequence (listed (a .t)) = omega (arith, c .before .before .before .before .before .pre .1) in
+    let e : getLast? (freed (a .table)) ≡ some (c .before .before .target .given .0 .0) = some-of-it (getLast? (freed (a .table))) _ (sym (c .before .before .before .before .last-free .ensures) ∙ c .before .before .target .given .1) in
+    let h : 0xFFFF_FFFD < greatest sequence (listed (a .table)) = omega (arith, c .before .before .before .before .before .pre .1) in
     rw (e, lt-ltb _ _ h)
 
 returns-3 : tie.Need-returns-3
 unfolding planTo
 returns-3 c =
     let a = c .before .before .before .before .before .args in
-    let e : getLast? (freed (a .t)) ≡ some (c .before .before .target .given .0 .0) = some-of-it (getLast? (freed (a .t))) _ (sym (c .before .before .before .before .last-free .ensures) ∙ c .before .before .target .given .1) in
-    let h : greatest sequence (listed (a .t)) ≤ 0xFFFF_FFFD = omega (arith, c .before .before .before .before .before .pre .1) in
-    let n : a .top + 1 ≡ suc (greatest sequence (listed (a .t))) = omega (arith, c .before .before .before .before .before .pre .1) in
+    let e : getLast? (freed (a .table)) ≡ some (c .before .before .target .given .0 .0) = some-of-it (getLast? (freed (a .table))) _ (sym (c .before .before .before .before .last-free .ensures) ∙ c .before .before .target .given .1) in
+    let h : greatest sequence (listed (a .table)) ≤ 0xFFFF_FFFD = omega (arith, c .before .before .before .before .before .pre .1) in
+    let n : a .top + 1 ≡ suc (greatest sequence (listed (a .table))) = omega (arith, c .before .before .before .before .before .pre .1) in
     rw (e, le-ltb _ _ h, n)
 
 pub plan-copy-spec : {M : Type 1} → statement M

@@ -17,32 +17,50 @@ returns c = rw (← c .before .any-active .ensures, c .if1 .taken)
 returns-2 : tie.Need-returns-2
 unfolding plan planWith
 returns-2 c =
-    let e = sought-nothing (chosen (listed (c .before .before .before .before .before .before .args .t))) (sym (c .enum-told .given .1) ∙ c .before .before .choose .ensures) in
+    let e = sought-nothing (chosen (listed (c .before .before .before .before .before .before .args .table))) (sym (c .enum-told .given .1) ∙ c .before .before .choose .ensures) in
     rw (← c .before .before .before .before .before .any-active .ensures, c .before .before .before .before .if1 .left, e)
 
 returns-3 : tie.Need-returns-3
 unfolding plan planWith
 returns-3 c =
-    let p = c .before .before .before .before .p .given .0 .0 in
-    let e = sought-found (chosen (listed (c .before .before .before .before .before .before .before .before .before .before .args .t))) p (sym (c .before .before .before .before .p .given .1) ∙ c .before .before .before .before .before .before .choose .ensures) in
+    let at-p = c .before .before .before .before in
+    let at-choose = at-p .before .before in
+    let at-if1 = at-choose .before .before in
+    let at-any-active = at-if1 .before in
+    let entered = at-any-active .before in
+    let p = at-p .p .given .0 .0 in
+    let e = sought-found (chosen (listed (entered .args .table))) p (sym (at-p .p .given .1) ∙ at-choose .choose .ensures) in
     let q : closed (p .seen .state) ≡ false = sym (c .before .is-closed .ensures) ∙ not-true (c .before .is-closed .result) (c .if2 .taken) in
-    rw (← c .before .before .before .before .before .before .before .before .before .any-active .ensures, c .before .before .before .before .before .before .before .before .if1 .left, e, q)
+    rw (← at-any-active .any-active .ensures, at-if1 .if1 .left, e, q)
 
 returns-4 : tie.Need-returns-4
 unfolding plan planWith
 returns-4 c =
-    let p = c .before .before .before .before .before .before .before .p .given .0 .0 in
-    let e = sought-found (chosen (listed (c .before .before .before .before .before .before .before .before .before .before .before .before .before .args .t))) p (sym (c .before .before .before .before .before .before .before .p .given .1) ∙ c .before .before .before .before .before .before .before .before .before .choose .ensures) in
-    let q : closed (p .seen .state) ≡ true = sym (c .before .before .before .before .is-closed .ensures) ∙ not-false (c .before .before .before .before .is-closed .result) (c .before .before .before .if2 .left) in
-    rw (← c .before .before .before .before .before .before .before .before .before .before .before .before .any-active .ensures, c .before .before .before .before .before .before .before .before .before .before .before .if1 .left, e, q, eq-eqb _ _ (c .before .if3 .taken))
+    let at-is-closed = c .before .before .before .before in
+    let at-p = at-is-closed .before .before .before in
+    let at-choose = at-p .before .before in
+    let at-if1 = at-choose .before .before in
+    let at-any-active = at-if1 .before in
+    let entered = at-any-active .before in
+    let p = at-p .p .given .0 .0 in
+    let e = sought-found (chosen (listed (entered .args .table))) p (sym (at-p .p .given .1) ∙ at-choose .choose .ensures) in
+    let q : closed (p .seen .state) ≡ true = sym (at-is-closed .is-closed .ensures) ∙ not-false (at-is-closed .is-closed .result) (c .before .before .before .if2 .left) in
+    rw (← at-any-active .any-active .ensures, at-if1 .if1 .left, e, q, eq-eqb _ _ (c .before .if3 .taken))
 
 returns-5 : tie.Need-returns-5
 unfolding plan planWith
 returns-5 c =
-    let p = c .before .before .before .before .before .before .before .before .p .given .0 .0 in
-    let e = sought-found (chosen (listed (c .before .before .before .before .before .before .before .before .before .before .before .before .before .before .args .t))) p (sym (c .before .before .before .before .before .before .before .before .p .given .1) ∙ c .before .before .before .before .before .before .before .before .before .before .choose .ensures) in
-    let q : closed (p .seen .state) ≡ true = sym (c .before .before .before .before .before .is-closed .ensures) ∙ not-false (c .before .before .before .before .before .is-closed .result) (c .before .before .before .before .if2 .left) in
-    rw (c .plan-copy .ensures, ← c .before .before .before .before .before .before .before .before .before .before .before .before .before .any-active .ensures, c .before .before .before .before .before .before .before .before .before .before .before .before .if1 .left, e, q, ne-eqb _ _ (c .before .before .if3 .left))
+    let at-if2 = c .before .before .before .before in
+    let at-is-closed = at-if2 .before in
+    let at-p = at-is-closed .before .before .before in
+    let at-choose = at-p .before .before in
+    let at-if1 = at-choose .before .before in
+    let at-any-active = at-if1 .before in
+    let entered = at-any-active .before in
+    let p = at-p .p .given .0 .0 in
+    let e = sought-found (chosen (listed (entered .args .table))) p (sym (at-p .p .given .1) ∙ at-choose .choose .ensures) in
+    let q : closed (p .seen .state) ≡ true = sym (at-is-closed .is-closed .ensures) ∙ not-false (at-is-closed .is-closed .result) (at-if2 .if2 .left) in
+    rw (c .plan-copy .ensures, ← at-any-active .any-active .ensures, at-if1 .if1 .left, e, q, ne-eqb _ _ (c .before .before .if3 .left))
 
 pub plan-of-spec : {M : Type 1} → statement M
 plan-of-spec =

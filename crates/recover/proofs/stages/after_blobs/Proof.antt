@@ -7,9 +7,12 @@ use Rattle.recover.proofs.stages.after_blobs.Tie as tie
 
 returns : tie.Need-returns
 returns c =
-    let a = c .before .before .before .before .before .before .before .before .before .before .before .before .args in
-    let calm = c .before .before .before .before .before .before .before .is-calm .ensures (c .before .before .before .before .if1 .taken) in
-    rw (calm-last (listed (a .lists)) (a .image .now) calm) (c .before .before .close-full .ensures)
+    let at-if1 = c .before .before .before .before in
+    let at-is-calm = at-if1 .before .before .before in
+    let entered = at-is-calm .before .before .before .before .before in
+    let a = entered .args in
+    let calm = at-is-calm .is-calm .ensures (at-if1 .if1 .taken) in
+    rw (calm-last (listed (a .table)) (a .image .now) calm) (c .before .before .close-full .ensures)
 
 pub after-blobs-spec : {M : Type 1} → statement M
 after-blobs-spec =

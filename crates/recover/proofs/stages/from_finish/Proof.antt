@@ -7,13 +7,16 @@ use Rattle.recover.proofs.stages.from_finish.Tie as tie
 
 returns : tie.Need-returns
 returns c =
-    let a = c .before .before .before .before .before .before .before in
-    finish-stop (listed (a .args .lists)) (freed (a .args .lists)) (a .pre .3) (c .before .before .before .before .finish-all .ensures) (c .enum-told .given .1)
+    let at-finish-all = c .before .before .before .before in
+    let a = at-finish-all .before .before .before in
+    finish-stop (listed (a .args .table)) (freed (a .args .table)) (a .pre .3) (at-finish-all .finish-all .ensures) (c .enum-told .given .1)
 
 returns-2 : tie.Need-returns-2
 returns-2 c =
-    let a = c .before .before .before .before .before .before .before .before .before .before .before .before .before .before in
-    finish-on (listed (a .args .lists)) (freed (a .args .lists)) (a .pre .3) (c .before .before .before .before .before .before .before .before .before .before .before .finish-all .ensures) (c .before .before .before .before .before .before .before .r .given .1) (c .before .before .from-order .ensures)
+    let at-r = c .before .before .before .before .before .before .before in
+    let at-finish-all = at-r .before .before .before .before in
+    let a = at-finish-all .before .before .before in
+    finish-on (listed (a .args .table)) (freed (a .args .table)) (a .pre .3) (at-finish-all .finish-all .ensures) (at-r .r .given .1) (c .before .before .from-order .ensures)
 
 pub from-finish-spec : {M : Type 1} → statement M
 from-finish-spec =

@@ -7,9 +7,12 @@ use Rattle.recover.proofs.stages.last_stages.Tie as tie
 
 returns : tie.Need-returns
 returns c =
-    let a = c .before .before .before .before .before .before .before .before .before .before .args in
-    let calm = c .before .before .before .before .before .before .is-calm .ensures (c .before .before .before .before .if1 .taken) in
-    rw (calm-stages (listed (a .lists)) (a .image .now) calm) (c .before .before .close-full .ensures)
+    let at-if1 = c .before .before .before .before in
+    let at-is-calm = at-if1 .before .before in
+    let entered = at-is-calm .before .before .before .before in
+    let a = entered .args in
+    let calm = at-is-calm .is-calm .ensures (at-if1 .if1 .taken) in
+    rw (calm-stages (listed (a .table)) (a .image .now) calm) (c .before .before .close-full .ensures)
 
 pub last-stages-spec : {M : Type 1} → statement M
 last-stages-spec =

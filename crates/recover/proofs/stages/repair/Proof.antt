@@ -19,47 +19,71 @@ use Rattle.recover.proofs.stages.repair.Statement.{statement}
 use Rattle.recover.proofs.stages.repair.Tie as tie
 
 slice-aggregate-any-part : tie.Need-slice-aggregate-any-part
-slice-aggregate-any-part c = sym (length-take-le _ _ (omega (arith, c .before .before .before .before .gather .ensures .1, c .before .before .before .before .before .before .before .before .before .pre .4, c .before .before .before .room .given)))
+slice-aggregate-any-part c =
+    let at-gather = c .before .before .before .before in
+    let entered = at-gather .before .before .before .before .before in
+    sym (length-take-le _ _ (omega (arith, at-gather .gather .ensures .1, entered .pre .4, c .before .before .before .room .given)))
 
 any-part-requires : tie.Need-any-part-requires
 any-part-requires c κs =
-    let a = c .before .before .before .before .before .before .before .before .before in
-    rw (c .before .before .before .before .gather .ensures .0) (found-placed (a .args .image .now) (listed (a .args .lists)) (a .pre .3))
+    let at-gather = c .before .before .before .before in
+    let a = at-gather .before .before .before .before .before in
+    rw (at-gather .gather .ensures .0) (found-placed (a .args .image .now) (listed (a .args .table)) (a .pre .3))
 
 -- where there is no part, stage 3 has no step
 returns : tie.Need-returns
 returns c =
-    let a = c .before .before .before .before .before .before .before .before .before .before .before .before .before .before .before .before .before .before in
+    let at-repair-items = c .before .before .before .before in
+    let at-if1 = at-repair-items .before .before .before in
+    let at-any-part = at-if1 .before in
+    let at-gather = at-any-part .before .before .before .before .before in
+    let a = at-gather .before .before .before .before .before in
     let l = a .args .image .now in
-    let ps = listed (a .args .lists) in
+    let ps = listed (a .args .table) in
     let none-here : some-of (λ (x : Found). isPart (x .raw)) (found ps l) ≡ false =
-    rw (c .before .before .before .before .before .before .before .before .before .before .before .before .before .gather .ensures .0, items-found l ps (a .pre .3)) at (sym (c .before .before .before .before .before .before .before .before .any-part .ensures) ∙ not-true _ (c .before .before .before .before .before .before .before .if1 .taken)) in
-    rw (no-blobs ps l (no-step (found ps l) none-here)) (c .before .before .before .before .repair-items .ensures)
+    rw (at-gather .gather .ensures .0, items-found l ps (a .pre .3)) at (sym (at-any-part .any-part .ensures) ∙ not-true _ (at-if1 .if1 .taken)) in
+    rw (no-blobs ps l (no-step (found ps l) none-here)) (at-repair-items .repair-items .ensures)
 
 make-blobs-requires : tie.Need-make-blobs-requires
 make-blobs-requires c κs =
-    let a = c .before .before .before .before .before .before .before .before .before .before .before .before .before in
-    let g = c .before .before .before .before .before .before .before .before .gather .ensures in
-    (rw (g .0) (found-placed (a .args .image .now) (listed (a .args .lists)) (a .pre .3)), g .1, omega (arith, a .pre .4, c .before .before .before .before .before .before .before .room .given))
+    let at-room = c .before .before .before .before .before .before .before in
+    let at-gather = at-room .before in
+    let a = at-gather .before .before .before .before .before in
+    let g = at-gather .gather .ensures in
+    (rw (g .0) (found-placed (a .args .image .now) (listed (a .args .table)) (a .pre .3)), g .1, omega (arith, a .pre .4, at-room .room .given))
 
 -- what stage 3 did is by the items found
-repaired : (c : tie.After-make-blobs) → let a = c .before .before .before .before .before .before .before .before .before .before .before .before .before .before .args in Did (blobSteps (found (listed (a .lists)) (a .image .now))) (a .allowed) (a .image .now) (c .make-blobs .last .0) (c .make-blobs .result)
+repaired : (c : tie.After-make-blobs) →
+    let entered = c .before .before .before .before .before .before .before .before .before .before .before .before .before .before in
+    let a = entered .args in Did (blobSteps (found (listed (a .table)) (a .image .now))) (a .allowed) (a .image .now) (c .make-blobs .last .0) (c .make-blobs .result)
 repaired c =
-    let a = c .before .before .before .before .before .before .before .before .before .before .before .before .before .before in
-    rw (c .before .before .before .before .before .before .before .before .before .gather .ensures .0, items-found (a .args .image .now) (listed (a .args .lists)) (a .pre .3)) at (c .make-blobs .ensures .0)
+    let at-gather = c .before .before .before .before .before .before .before .before .before in
+    let a = at-gather .before .before .before .before .before in
+    rw (at-gather .gather .ensures .0, items-found (a .args .image .now) (listed (a .args .table)) (a .pre .3)) at (c .make-blobs .ensures .0)
 
 returns-2 : tie.Need-returns-2
-returns-2 c = blobs-stop (listed (c .before .before .before .before .before .before .before .before .before .before .before .before .before .before .before .before .before .before .before .before .args .lists)) (repaired (c .before .before .before .before .before .before)) (c .enum-told .given .1)
+returns-2 c =
+    let at-make-blobs = c .before .before .before .before .before .before in
+    let entered = at-make-blobs .before .before .before .before .before .before .before .before .before .before .before .before .before .before in
+    blobs-stop (listed (entered .args .table)) (repaired at-make-blobs) (c .enum-told .given .1)
 
 after-blobs-requires : tie.Need-after-blobs-requires
 after-blobs-requires c κs =
-    let a = c .before .before .before .before .before .before .before .before .before .before .before .before .before .before .before .before .before .before .before .before .before .before .before in
-    let like = c .before .before .before .before .before .before .before .before .before .make-blobs .ensures .1 in
+    let at-room3 = c .before .before .before .before .before .before in
+    let at-make-blobs = at-room3 .before .before .before in
+    let at-room = at-make-blobs .before .before .before .before .before .before .before .before in
+    let a = at-room .before .before .before .before .before .before in
+    let like = at-make-blobs .make-blobs .ensures .1 in
     let sectors = ap (λ (x : ℕ). x / 4096) (like .size) in
-    (a .pre .0, a .pre .1, rw sectors (a .pre .2), lies-alike like (listed (a .args .lists)) (a .pre .3), omega (arith, a .pre .4, c .before .before .before .before .before .before .before .before .before .before .before .before .before .before .before .before .before .room .given, c .before .before .before .before .before .before .room3 .given))
+    (a .pre .0, a .pre .1, rw sectors (a .pre .2), lies-alike like (listed (a .args .table)) (a .pre .3), omega (arith, a .pre .4, at-room .room .given, at-room3 .room3 .given))
 
 returns-3 : tie.Need-returns-3
-returns-3 c = blobs-on (listed (c .before .before .before .before .before .before .before .before .before .before .before .before .before .before .before .before .before .before .before .before .before .before .before .before .before .before .before .before .args .lists)) (repaired (c .before .before .before .before .before .before .before .before .before .before .before .before .before .before)) (c .before .before .before .before .before .before .before .before .r .given .1) (c .before .before .before .before .after-blobs .ensures)
+returns-3 c =
+    let at-after-blobs = c .before .before .before .before in
+    let at-r = at-after-blobs .before .before .before .before in
+    let at-make-blobs = at-r .before .before .before .before .before .before in
+    let entered = at-make-blobs .before .before .before .before .before .before .before .before .before .before .before .before .before .before in
+    blobs-on (listed (entered .args .table)) (repaired at-make-blobs) (at-r .r .given .1) (at-after-blobs .after-blobs .ensures)
 
 pub repair-spec : {M : Type 1} → statement M
 repair-spec =

@@ -37,31 +37,41 @@ group-at-requires-2 c κs =
     rw (c .place-at2 .ensures) (each-at (Placed (a .args .image .now)) (a .args .places .now) 0 (a .pre .0) (c .before .before .loop .e) (c .before .loop-test .taken))
 
 -- the group of the turn's place
-here : (c : tie.After-rank-same Inv-loop μ-loop) → let a = c .before .before .before .before .before .before .before .before .before .args in rankNumber (c .before .group-at2 .result) ≡ groupBy (itemAt (a .image .now) (getD (a .places .now) (c .before .before .before .before .loop .e) 0))
+here : (c : tie.After-rank-same Inv-loop μ-loop) →
+    let at-loop = c .before .before .before .before in
+    let entered = at-loop .before .before .before .before .before in
+    let a = entered .args in rankNumber (c .before .group-at2 .result) ≡ groupBy (itemAt (a .image .now) (getD (a .places .now) (at-loop .loop .e) 0))
 here c =
-    let a = c .before .before .before .before .before .before .before .before .before .args in
+    let entered = c .before .before .before .before .before .before .before .before .before in
+    let a = entered .args in
     c .before .group-at2 .ensures .0 ∙ ap (λ (p : ℕ). groupBy (itemAt (a .image .now) p)) (c .before .before .place-at2 .ensures)
 
 returns : tie.Need-returns Inv-loop μ-loop
 returns c =
-    let a = c .before .before .before .before .before .before .before .before .before .before .args in
-    let l = c .before .before .before .before .before .loop in
+    let at-loop-test = c .before .before .before .before in
+    let at-loop = at-loop-test .before in
+    let entered = at-loop .before .before .before .before .before in
+    let a = entered .args in
+    let l = at-loop .loop in
     let image = a .image .now in
     let places = a .places .now in
     let other : (_ ≡ _ → ⊥) = eqb-false _ _ (sym (c .before .rank-same .ensures) ∙ not-true _ (c .if1 .taken)) in
     ends-here groupBy image places (a .a) (l .e) (l .inv .0) (l .inv .1) (l .inv .3) (λ x t q r.
-    let first : x ≡ itemAt image (getD places (l .e) 0) = cc (items-more image places (l .e) (c .before .before .before .before .loop-test .taken)) in
+    let first : x ≡ itemAt image (getD places (l .e) 0) = cc (items-more image places (l .e) (at-loop-test .loop-test .taken)) in
     other (here (c .before) ∙ ap groupBy (sym first) ∙ r ∙ sym (l .inv .2)))
 
 loop-again : tie.Need-loop-again Inv-loop μ-loop
 loop-again c =
-    let a = c .before .before .before .before .before .before .before .before .before .before .args in
-    let l = c .before .before .before .before .before .loop in
+    let at-loop-test = c .before .before .before .before in
+    let at-loop = at-loop-test .before in
+    let entered = at-loop .before .before .before .before .before in
+    let a = entered .args in
+    let l = at-loop .loop in
     let same = eqb-true _ _ (sym (c .before .rank-same .ensures) ∙ not-false _ (c .if1 .left)) in (
       omega (arith, l .inv .0),
-      omega (arith, c .before .before .before .before .loop-test .taken),
+      omega (arith, at-loop-test .loop-test .taken),
       l .inv .2,
-      same-more groupBy (a .image .now) (a .places .now) (a .a) (l .e) (omega (arith, l .inv .0)) (c .before .before .before .before .loop-test .taken) (sym (here (c .before)) ∙ same ∙ l .inv .2) (l .inv .3),
+      same-more groupBy (a .image .now) (a .places .now) (a .a) (l .e) (omega (arith, l .inv .0)) (at-loop-test .loop-test .taken) (sym (here (c .before)) ∙ same ∙ l .inv .2) (l .inv .3),
     )
 
 returns-2 : tie.Need-returns-2 Inv-loop μ-loop

@@ -13,8 +13,8 @@ use Rattle.found.specs.Found.{isIndex, indexOf, versionOf}
 use Rattle.found.specs.Places.{itemAt, Placed}
 use Rattle.found.proofs.Reading.{byte-here}
 use Rattle.quick.specs.Names.{chunkNumber}
-use Rattle.quick.proofs.tests.chunk_fits.Statement.{statement}
-use Rattle.quick.proofs.tests.chunk_fits.Tie as tie
+use Rattle.quick.proofs.fits.chunk_fits.Statement.{statement}
+use Rattle.quick.proofs.fits.chunk_fits.Tie as tie
 
 -- the place to which the table leads
 there : (c : tie.Else1) → Placed (c .before .before .before .before .before .args .image .now) (c .before .find .result)
@@ -36,10 +36,14 @@ returns-3 : tie.Need-returns-3
 returns-3 c = λ e. absurd (true≢false e refl)
 
 mul-index-count : tie.Need-mul-index-count
-mul-index-count c = let h = there (c .before .before .before .before .before .before .before) in omega (arith, h .room)
+mul-index-count c =
+    let entered = c .before .before .before .before .before .before .before in
+    let h = there entered in omega (arith, h .room)
 
 index-count-requires : tie.Need-index-count-requires
-index-count-requires c κs = let h = there (c .before .before .before .before .before .before .before) in omega (arith, h .room)
+index-count-requires c κs =
+    let entered = c .before .before .before .before .before .before .before in
+    let h = there entered in omega (arith, h .room)
 
 returns-4 : tie.Need-returns-4
 returns-4 c =

@@ -11,8 +11,8 @@ use Rattle.page.specs.declared.walk.ItemHeader.{ItemHeader}
 use Rattle.page.specs.State.{stateOf, isFree}
 use Rattle.page.specs.Walk.{Laid, laidAt, walk, itemsOf, headerOf}
 use Rattle.page.proofs.Walking.{item-span, walk-past, Ahead, done, meets, ahead}
-use Rattle.reader.specs.declared.Step.{Step}
-use Rattle.reader.specs.Reader.{stepOf, stepFrom, hasNone, stepAt, beginsAt, handed}
+use Rattle.reader.specs.declared.Read.{Read}
+use Rattle.reader.specs.Reader.{readOf, readOn, hasNone, readFrom, beginsAt, handedOut}
 use Rattle.reader.proofs.Told.{span-told}
 use Rattle.reader.proofs.Begins.{begins-end, begins-first, begins-once, none-there, some-there}
 
@@ -20,13 +20,13 @@ abbrev pub told : Laid → ItemHeader
 told x = headerOf (x .entry) (x .raw)
 
 module _ (s : List ℕ) (whole : length s ≡ 4096) where
-  step-walks : (e : ℕ) → stepFrom s e ≡ stepOf (walk s 126 e)
-  unfolding stepFrom
+  step-walks : (e : ℕ) → readOn s e ≡ readOf (walk s 126 e)
+  unfolding readOn
   step-walks e = rw (eq-eqb _ _ whole)
 
   -- from a place on
-  hands : (n e : ℕ) → 126 < e + n → handed (stepFrom s) n e ≡ map told (walk s 126 e)
-  unfolding handed stepOf
+  hands : (n e : ℕ) → 126 < e + n → handedOut (readOn s) n e ≡ map told (walk s 126 e)
+  unfolding handedOut readOf
   hands zero e h = go (ahead s 126 e (omega arith))
     where
       go : Ahead s e → [] ≡ map told (walk s 126 e)
@@ -34,7 +34,7 @@ module _ (s : List ℕ) (whole : length s ≡ 4096) where
       go (meets j l q w) = let r = item-span s j q in absurd (omega arith)
   hands (suc n) e h = go (λ m g. hands n m g) (ahead s 126 e (omega arith))
     where
-      go : ((m : ℕ) → 126 < m + n → handed (stepFrom s) n m ≡ map told (walk s 126 m)) → Ahead s e → handed (stepFrom s) (suc n) e ≡ map told (walk s 126 e)
+      go : ((m : ℕ) → 126 < m + n → handedOut (readOn s) n m ≡ map told (walk s 126 m)) → Ahead s e → handedOut (readOn s) (suc n) e ≡ map told (walk s 126 e)
       go ih (done w) = rw (step-walks e, w)
       go ih (meets j l q w) =
           let r = item-span s j q in
@@ -54,25 +54,25 @@ module _ (s : List ℕ) (whole : length s ≡ 4096) where
       rw f
 
   -- a reader, from where it begins on: all items of the sector
-  pub hands-out : handed (stepFrom s) 127 (beginsAt s) ≡ map told (itemsOf s)
+  pub hands-out : handedOut (readOn s) 127 (beginsAt s) ≡ map told (itemsOf s)
   hands-out = go (hasNone s) refl
     where
-      go : (b : Bool) → hasNone s ≡ b → handed (stepFrom s) 127 (beginsAt s) ≡ map told (itemsOf s)
-      go true h = ap (handed (stepFrom s) 127) (begins-end s h) ∙ hands 127 126 (omega arith) ∙ sym (ap (map told) (none h))
-      go false h = ap (handed (stepFrom s) 127) (begins-first s h) ∙ hands 127 0 (omega arith) ∙ sym (ap (map told) (some h))
+      go : (b : Bool) → hasNone s ≡ b → handedOut (readOn s) 127 (beginsAt s) ≡ map told (itemsOf s)
+      go true h = ap (handedOut (readOn s) 127) (begins-end s h) ∙ hands 127 126 (omega arith) ∙ sym (ap (map told) (none h))
+      go false h = ap (handedOut (readOn s) 127) (begins-first s h) ∙ hands 127 0 (omega arith) ∙ sym (ap (map told) (some h))
 
 -- one who asks at each place anew, from entry 0 on, is handed the same
-pub hands-alike : (s : List ℕ) (n : ℕ) → handed (stepAt s) n 0 ≡ handed (stepFrom s) n (beginsAt s)
-unfolding handed stepOf
+pub hands-alike : (s : List ℕ) (n : ℕ) → handedOut (readFrom s) n 0 ≡ handedOut (readOn s) n (beginsAt s)
+unfolding handedOut readOf
 hands-alike s zero = refl
 hands-alike s (suc n) = go (hasNone s) refl
   where
-    go : (b : Bool) → hasNone s ≡ b → handed (stepAt s) (suc n) 0 ≡ handed (stepFrom s) (suc n) (beginsAt s)
+    go : (b : Bool) → hasNone s ≡ b → handedOut (readFrom s) (suc n) 0 ≡ handedOut (readOn s) (suc n) (beginsAt s)
     go true h =
-        let first : stepAt s 0 ≡ stepOf [] = none-there s h 0 in
-        let begun : stepFrom s (beginsAt s) ≡ stepOf [] = begins-once s ∙ none-there s h (beginsAt s) in
+        let first : readFrom s 0 ≡ readOf [] = none-there s h 0 in
+        let begun : readOn s (beginsAt s) ≡ readOf [] = begins-once s ∙ none-there s h (beginsAt s) in
         rw (first, begun)
-    go false h = rw (begins-first s h) (ap (λ (f : ℕ → Step). handed f (suc n) 0) (λ i e. some-there s h e i))
+    go false h = rw (begins-first s h) (ap (λ (f : ℕ → Read). handedOut f (suc n) 0) (λ i e. some-there s h e i))
 
-pub reads-out : (s : List ℕ) → length s ≡ 4096 → handed (stepAt s) 127 0 ≡ map told (itemsOf s)
+pub reads-out : (s : List ℕ) → length s ≡ 4096 → handedOut (readFrom s) 127 0 ≡ map told (itemsOf s)
 reads-out s whole = hands-alike s 127 ∙ hands-out s whole

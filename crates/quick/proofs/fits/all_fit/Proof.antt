@@ -10,8 +10,8 @@ use Rattle.lists.proofs.Member.{true≢false}
 use Rattle.quick.specs.Slots.{rawAt}
 use Rattle.quick.specs.Fits.{Fits}
 use Rattle.quick.proofs.Looking.{slot-in}
-use Rattle.quick.proofs.tests.all_fit.Statement.{statement}
-use Rattle.quick.proofs.tests.all_fit.Tie as tie
+use Rattle.quick.proofs.fits.all_fit.Statement.{statement}
+use Rattle.quick.proofs.fits.all_fit.Tie as tie
 
 abbrev Inv-loop : tie.InvT-loop
 Inv-loop image slots i₀ i = (i ≤ length slots) × ((j : ℕ) → j < i → 1 ≤ getD slots j 0 → Fits slots image (rawAt image (getD slots j 0)))

@@ -16,8 +16,8 @@ use Rattle.found.proofs.Reading.{byte-here, le-at}
 use Rattle.quick.specs.Names.{chunkName}
 use Rattle.quick.specs.Slots.{rawAt}
 use Rattle.quick.specs.Fits.{HasChunk, toldRaw}
-use Rattle.quick.proofs.tests.index_fits.Statement.{statement}
-use Rattle.quick.proofs.tests.index_fits.Tie as tie
+use Rattle.quick.proofs.fits.index_fits.Statement.{statement}
+use Rattle.quick.proofs.fits.index_fits.Tie as tie
 
 abbrev Inv-loop : tie.InvT-loop
 Inv-loop image slots index v count size₀ n₀ size n =
@@ -28,7 +28,9 @@ abbrev μ-loop : tie.MeasureT-loop
 μ-loop image slots index v count size₀ n₀ size n = count - n
 
 -- the place of this turn's chunk
-there : (c : tie.Else1 Inv-loop μ-loop) → Placed (c .before .before .before .before .before .before .before .before .before .args .image .now) (c .before .chunk-at .result)
+there : (c : tie.Else1 Inv-loop μ-loop) →
+    let entered = c .before .before .before .before .before .before .before .before .before in
+    Placed (entered .args .image .now) (c .before .chunk-at .result)
 there c = c .before .chunk-at .ensures (omega (arith, c .if1 .left)) .2
 
 mul-index-count : tie.Need-mul-index-count Inv-loop μ-loop
@@ -43,8 +45,10 @@ loop-holds c = (omega arith, omega arith, λ j h. absurd (omega arith), refl)
 
 chunk-at-requires : tie.Need-chunk-at-requires Inv-loop μ-loop
 chunk-at-requires c κs =
-    let p = c .before .before .before .before .before .before .before .pre in
-    (p .0, c .before .before .before .before .version-at .ensures .1, omega (arith, c .before .before .wide .ensures .1))
+    let at-version-at = c .before .before .before .before in
+    let entered = at-version-at .before .before .before in
+    let p = entered .pre in
+    (p .0, at-version-at .version-at .ensures .1, omega (arith, c .before .before .wide .ensures .1))
 
 returns : tie.Need-returns Inv-loop μ-loop
 returns c = λ e. absurd (true≢false e refl)
@@ -79,10 +83,14 @@ loop-again c =
     )
 
 mul-index-size : tie.Need-mul-index-size Inv-loop μ-loop
-mul-index-size c = let p = c .before .before .before .before .before .before .before .pre in omega (arith, p .1 .room)
+mul-index-size c =
+    let entered = c .before .before .before .before .before .before .before in
+    let p = entered .pre in omega (arith, p .1 .room)
 
 index-size-requires : tie.Need-index-size-requires Inv-loop μ-loop
-index-size-requires c κs = let p = c .before .before .before .before .before .before .before .pre in omega (arith, p .1 .room)
+index-size-requires c κs =
+    let entered = c .before .before .before .before .before .before .before in
+    let p = entered .pre in omega (arith, p .1 .room)
 
 returns-2 : tie.Need-returns-2 Inv-loop μ-loop
 returns-2 c =

@@ -3,6 +3,7 @@ use super::names::chunk_name;
 use super::names::number_at;
 use super::slots::find;
 use found::Rank;
+use layout::ENTRY_BYTES;
 ghost use mathlib.Core.Path.{_≡_};
 ghost use mathlib.Core.Bool.{true};
 ghost use Prim.Native.Nat.{ℕ, _≤_, _<_};
@@ -30,7 +31,7 @@ fn chunk_fits(image: &[u8], slots: &[u16], place: usize) -> bool
     ) {
         return false;
     }
-    number_at(image, place) < word::wide(entry::index_count(image, index * 32))
+    number_at(image, place) < word::wide(entry::index_count(image, index * ENTRY_BYTES))
 }
 
 // The place of the chunk number `n` of version `v`; 0 where there is none.
@@ -55,7 +56,7 @@ fn index_fits(image: &[u8], slots: &[u16], index: usize) -> bool
     ensures { λ r. ⌜ (r ≡ true → IndexFits (now (slots .entry)) (now (image .entry)) (itemAt (now (image .entry)) index .raw)) ⌝ }
 {
     let v = found::version_at(image, index);
-    let count = word::wide(entry::index_count(image, index * 32));
+    let count = word::wide(entry::index_count(image, index * ENTRY_BYTES));
     let mut size: u32 = 0;
     let mut n: u32 = 0;
     while n < count {
@@ -63,10 +64,10 @@ fn index_fits(image: &[u8], slots: &[u16], index: usize) -> bool
         if place == 0 {
             return false;
         }
-        size += entry::chunk_size(image, place * 32);
+        size += entry::chunk_size(image, place * ENTRY_BYTES);
         n += 1;
     }
-    size == entry::index_size(image, index * 32)
+    size == entry::index_size(image, index * ENTRY_BYTES)
 }
 
 // A part of a blob fits with the others.

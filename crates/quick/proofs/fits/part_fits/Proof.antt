@@ -4,8 +4,8 @@ use borrow.Author.Needs.{needs}
 use Rattle.lists.proofs.Member.{true≢false}
 use Rattle.found.specs.Places.{itemAt}
 use Rattle.quick.proofs.Versions.{index-not-chunk}
-use Rattle.quick.proofs.tests.part_fits.Statement.{statement}
-use Rattle.quick.proofs.tests.part_fits.Tie as tie
+use Rattle.quick.proofs.fits.part_fits.Statement.{statement}
+use Rattle.quick.proofs.fits.part_fits.Tie as tie
 
 returns : tie.Need-returns
 returns c =

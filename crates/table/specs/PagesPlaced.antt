@@ -13,6 +13,6 @@ unfoldable pub timesIn : ℕ → List Page → List ℕ → ℕ
 timesIn u ps fs = sumOf (λ (p : Page). one (inSector u p)) ps + sumOf (λ (s : ℕ). one (eqb s u)) fs
 
 -- of an image of n sectors, which are 16 at most
-pub record Placed (n : ℕ) (ps : List Page) (fs : List ℕ) : Type 0 where
+pub record PagesPlaced (n : ℕ) (ps : List Page) (fs : List ℕ) : Type 0 where
   pub once : (u : ℕ) → timesIn u ps fs ≤ one (ltb u n)
   pub sixteen : length ps + length fs ≤ 16

@@ -7,8 +7,8 @@ use Rattle.found.specs.Found.{chunkOf}
 use Rattle.found.specs.Places.{itemAt}
 use Rattle.found.specs.Ranks.{rankNumber}
 use Rattle.quick.specs.Slots.{told}
-use Rattle.quick.proofs.tests.chunk_at.Statement.{statement}
-use Rattle.quick.proofs.tests.chunk_at.Tie as tie
+use Rattle.quick.proofs.fits.chunk_at.Statement.{statement}
+use Rattle.quick.proofs.fits.chunk_at.Tie as tie
 
 returns : tie.Need-returns
 returns c = λ h. absurd (omega arith)
