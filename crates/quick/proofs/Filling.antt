@@ -20,9 +20,9 @@ use Rattle.found.specs.Places.{Placed}
 use Rattle.lists.specs.Each.{Each}
 use Rattle.lists.proofs.Each.{each-append, each-of, of-each}
 use Rattle.quick.specs.Names.{judged, nameOf, slotIn, slotOf}
-use Rattle.quick.specs.Slots.{EachSlot, Leads, gap, rawAt, told}
+use Rattle.quick.specs.Slots.{EachSlot, Leads, rawAt, stopOf, told}
 use Rattle.quick.specs.Fits.{Filled, Led, Named, called}
-use Rattle.quick.proofs.Looking.{each-set, gap-told, told-kept, told-new}
+use Rattle.quick.proofs.Looking.{each-set, told-kept, told-new}
 
 slot-below : (k : ℕ) → slotOf k < 4096
 unfolding slotOf slotIn
@@ -63,19 +63,20 @@ module _ (t l ps : List ℕ) (p : ℕ) (named : Named t l ps) where
         only = λ i h. still l ps p _ (named .only i h);
       }
 
-  module _ (s : ℕ) (room : 4096 ≤ length t) (some : 1 ≤ p) (free : s < 4096) (e : s ≡ gap t l (nameOf (rawAt l p)) 64 (slotOf (nameOf (rawAt l p)))) where
+  module _ (s : ℕ) (room : 4096 ≤ length t) (some : 1 ≤ p) (free : s < 4096) (e : s ≡ stopOf t l (nameOf (rawAt l p)) .slot) (none : stopOf t l (nameOf (rawAt l p)) .place ≡ 0) where
     abbrev k : ℕ
     k = nameOf (rawAt l p)
 
     new : (getD t s 0 ≡ 0) × (told (set t s p) l k ≡ p)
-    new = rw e (told-new t l k p some (eq-eqb k k refl) room (rw e at free) (slot-below k))
+    new = rw e (told-new t l k p some (eq-eqb k k refl) room none (rw e at free) (slot-below k))
 
     -- its name was not there
     unheard : (q : ℕ) → q ∈ ps → (b : Bool) → called k (rawAt l q) ≡ b → one b ≡ 0
+    unfolding told
     unheard q m true c =
         let r = rawAt l q in
         let o = of-each (Led t l) ps (named .led) q m (both-first (judged r) _ c) in
-        let z = gap-told t l k (rw e at free) in
+        let z : told t l k ≡ 0 = none in
         let w : told t l k ≡ q = ap (told t l) (sym (eqb-true (nameOf r) k (both-second (judged r) _ c))) ∙ o .1 in
         absurd (omega (arith, o .0))
     unheard q m false c = refl
@@ -113,12 +114,12 @@ module _ (t u l ps : List ℕ) (i : ℕ) (here : i < length ps) (before : Filled
   pub passed : judged (rawAt l (getD ps i 0)) ≡ false → Filled t u l (take (i + 1) ps)
   passed e = record { leads = before .leads; named = λ xs n. rw (front xs) at (named-passed u l (xs ++ take i ps) (getD ps i 0) (before .named xs n) e) }
 
-  module _ (placed : Placed l (getD ps i 0)) (s : ℕ) (free : s < 4096) (e : s ≡ gap u l (nameOf (rawAt l (getD ps i 0))) 64 (slotOf (nameOf (rawAt l (getD ps i 0))))) where
+  module _ (placed : Placed l (getD ps i 0)) (s : ℕ) (free : s < 4096) (e : s ≡ stopOf u l (nameOf (rawAt l (getD ps i 0))) .slot) (none : stopOf u l (nameOf (rawAt l (getD ps i 0))) .place ≡ 0) where
     pub put : Filled t (set u s (getD ps i 0)) l (take (i + 1) ps)
     put =
         let p = getD ps i 0 in
         let room = before .leads .room in
         record {
           leads = record { room = simp length-set room; each = each-set (Placed l) u s p (omega arith) (before .leads .each) placed };
-          named = λ xs n. rw (front xs) at (named-put u l (xs ++ take i ps) p (before .named xs n) s room (omega (arith, placed .entries)) free e);
+          named = λ xs n. rw (front xs) at (named-put u l (xs ++ take i ps) p (before .named xs n) s room (omega (arith, placed .entries)) free e none);
         }

@@ -12,8 +12,7 @@ ghost use lib.ListN.{getD};
 ghost use Rattle.found.specs.Places.{Placed};
 ghost use Rattle.lists.specs.Each.{Each};
 ghost use Rattle.found.specs.Ranks.{rankNumber};
-ghost use Rattle.quick.specs.Names.{slotOf};
-ghost use Rattle.quick.specs.Slots.{told, gap, Leads};
+ghost use Rattle.quick.specs.Slots.{stopOf, told, Leads};
 ghost use Rattle.quick.specs.Fits.{Filled};
 
 // How many slots a name is looked for in: images whose names crowd one place stay cheap.
@@ -29,46 +28,43 @@ pub fn clear(slots: &mut [u16])
     }
 }
 
+// Where a search for a name ends: the slot, and the place in it, which is 0 where the slot is free.
+pub struct Stop {
+    slot: usize,
+    place: usize,
+}
+
+// Where the search for a name ends: at the item that has it, or at the first free slot. At slot 4096, at place 0, where none of 64 slots is either.
+fn stop_of(image: &[u8], slots: &[u16], name: Rank) -> Stop
+    requires { ⌜ Leads (now slots) (now image) ⌝ }
+    ensures { λ r. ⌜ r ≡ stopOf (now (slots .entry)) (now (image .entry)) (rankNumber name) ⌝ }
+{
+    let mut i = slot_of(name);
+    let mut n: usize = 0;
+    while n < LOOKS {
+        let place = slots[i] as usize;
+        if place == 0 {
+            return Stop { slot: i, place };
+        }
+        if has_name(image, place, name) {
+            return Stop { slot: i, place };
+        }
+        i = (i + 1) % SLOTS;
+        n += 1;
+    }
+    Stop {
+        slot: SLOTS,
+        place: 0,
+    }
+}
+
 // The place of the item to which the table leads from a name; 0 where it leads to none.
 pub fn find(image: &[u8], slots: &[u16], name: Rank) -> usize
     requires { ⌜ Leads (now slots) (now image) ⌝ }
     ensures { λ r. ⌜ (r ≡ told (now (slots .entry)) (now (image .entry)) (rankNumber name)) × (1 ≤ r → Placed (now (image .entry)) r) ⌝ }
 {
-    let mut i = slot_of(name);
-    let mut n: usize = 0;
-    while n < LOOKS {
-        let place = slots[i] as usize;
-        if place == 0 {
-            return 0;
-        }
-        if has_name(image, place, name) {
-            return place;
-        }
-        i = (i + 1) % SLOTS;
-        n += 1;
-    }
-    0
-}
-
-// The free slot at which the search for a name ends; 4096 where it finds the name, or none of 64 slots is free.
-fn free_slot(image: &[u8], slots: &[u16], name: Rank) -> usize
-    requires { ⌜ Leads (now slots) (now image) ⌝ }
-    ensures { λ r. ⌜ r ≡ gap (now (slots .entry)) (now (image .entry)) (rankNumber name) 64 (slotOf (rankNumber name)) ⌝ }
-{
-    let mut i = slot_of(name);
-    let mut n: usize = 0;
-    while n < LOOKS {
-        let place = slots[i] as usize;
-        if place == 0 {
-            return i;
-        }
-        if has_name(image, place, name) {
-            return SLOTS;
-        }
-        i = (i + 1) % SLOTS;
-        n += 1;
-    }
-    SLOTS
+    let stop = stop_of(image, slots, name);
+    stop.place
 }
 
 // Puts each judged item into the table. Says whether none has a name that is there already: the table then leads from each one's name to it.
@@ -83,7 +79,11 @@ pub fn fill(image: &[u8], places: &[u16], slots: &mut [u16]) -> bool
         if !is_judged(image, place) {
             continue;
         }
-        let free = free_slot(image, slots, name_at(image, place));
+        let stop = stop_of(image, slots, name_at(image, place));
+        if stop.place != 0 {
+            return false;
+        }
+        let free = stop.slot;
         if SLOTS <= free {
             return false;
         }

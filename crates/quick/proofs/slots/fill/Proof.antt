@@ -12,6 +12,7 @@ use Rattle.found.specs.Places.{Placed}
 use Rattle.lists.proofs.Each.{each-at}
 use Rattle.quick.specs.Names.{judged}
 use Rattle.quick.specs.Slots.{rawAt}
+use Rattle.quick.specs.declared.slots.Stop.{Stop}
 use Rattle.quick.specs.Fits.{Filled}
 use Rattle.quick.proofs.Filling.{filled-none, passed, put}
 use Rattle.quick.proofs.slots.fill.Statement.{statement}
@@ -45,30 +46,35 @@ loop-again c =
 name-at-requires : tie.Need-name-at-requires Inv-loop μ-loop
 name-at-requires c κs = let p = c .before .before .before in rw (p .place-at .ensures) (there p)
 
-free-slot-requires : tie.Need-free-slot-requires Inv-loop μ-loop
-free-slot-requires c κs = c .before .before .before .before .before .before .loop .inv .2 .leads
+stop-of-requires : tie.Need-stop-of-requires Inv-loop μ-loop
+stop-of-requires c κs = c .before .before .before .before .before .before .loop .inv .2 .leads
 
 returns : tie.Need-returns Inv-loop μ-loop
 returns c = λ e. absurd (true≢false e refl)
 
+returns-2 : tie.Need-returns-2 Inv-loop μ-loop
+returns-2 c = λ e. absurd (true≢false e refl)
+
 cast-slots : tie.Need-cast-slots Inv-loop μ-loop
 cast-slots c =
-    let p = c .before .before .before .before .before .before in
+    let p = c .before .before .before .before .before .before .before .before in
     omega (arith, p .place-at .ensures, p .before .before .before .before .shared-slice-known2 .given (p .before .before .loop .i))
 
 loop-again-2 : tie.Need-loop-again-2 Inv-loop μ-loop
 loop-again-2 c =
-    let p = c .before .before .before .before .before .before in
+    let ended = c .before .before .before in
+    let p = ended .before .before .before .before .before in
     let l = p .before .before in
     let a = l .before .before .before .before in
     let image = a .args .image .now in
     let places = a .args .places .now in
-    let name = rw (p .place-at .ensures) at (c .before .before .name-at .ensures) in
-    let free = rw name at (c .before .free-slot .ensures) in
-    (simp length-set (l .loop .inv .0), omega arith, rw (p .place-at .ensures) (put (a .args .slots .now) (l .loop .slots) image places (l .loop .i) (omega arith) (l .loop .inv .2) (there p) (c .before .free-slot .result) (omega arith) free))
+    let name = rw (p .place-at .ensures) at (ended .before .name-at .ensures) in
+    let stop = rw name at (ended .stop-of .ensures) in
+    let none = ap (λ (u : Stop). u .place) (sym stop) ∙ c .before .if2 .left in
+    (simp length-set (l .loop .inv .0), omega arith, rw (p .place-at .ensures) (put (a .args .slots .now) (l .loop .slots) image places (l .loop .i) (omega arith) (l .loop .inv .2) (there p) (ended .stop-of .result .slot) (omega arith) (ap (λ (u : Stop). u .slot) stop) none))
 
-returns-2 : tie.Need-returns-2 Inv-loop μ-loop
-returns-2 c =
+returns-3 : tie.Need-returns-3 Inv-loop μ-loop
+returns-3 c =
     let l = c .before .loop in
     λ e. rw (take-all (l .i) (c .before .before .before .before .before .args .places .now) (omega arith)) at (l .inv .2)
 
@@ -85,13 +91,15 @@ fill-spec =
     (λ c. search needs)
     loop-again
     name-at-requires
-    free-slot-requires
+    stop-of-requires
     (λ c. search needs)
     returns
+    (λ c. search needs)
+    returns-2
     cast-slots
     (λ c. search needs)
     (λ c. search needs)
     (λ c. search needs)
     loop-again-2
     (λ c. search needs)
-    returns-2)
+    returns-3)

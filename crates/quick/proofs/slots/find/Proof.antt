@@ -1,81 +1,20 @@
--- `quick::find` meets its contract: the search from the slot reached is the search from the first. Assumes nothing.
-use mathlib.Core.Path.{_≡_, sym, ap, _∙_}
-use Prim.Native.Nat.{_-_, _<_}
-use native.Mathlib.Omega.{arith}
+-- `quick::find` meets its contract: what the search ends at is what the table leads to. Assumes nothing.
+use mathlib.Core.Path.{ap}
 use borrow.Author.Needs.{needs}
+use Rattle.found.specs.Places.{Placed}
 use Rattle.found.specs.Ranks.{rankNumber}
-use Rattle.quick.specs.Slots.{look, told}
-use Rattle.quick.proofs.Looking.{look-free, look-hit, look-miss, look-end}
+use Rattle.quick.specs.Slots.{told}
+use Rattle.quick.specs.declared.slots.Stop.{Stop}
+use Rattle.quick.proofs.Looking.{told-slot}
 use Rattle.quick.proofs.slots.find.Statement.{statement}
 use Rattle.quick.proofs.slots.find.Tie as tie
 
-abbrev Inv-loop : tie.InvT-loop
-Inv-loop image slots name i₀ n₀ i n = (i < 4096) × (look slots image (rankNumber name) (64 - n) i ≡ told slots image (rankNumber name))
-
-abbrev μ-loop : tie.MeasureT-loop
-μ-loop image slots name i₀ n₀ i n = 64 - n
-
-loop-holds : tie.Need-loop-holds Inv-loop μ-loop
+returns : tie.Need-returns
 unfolding told
-loop-holds c =
-    let s = c .slot-of in
-    let a = c .before .before .before .args in
-    (s .ensures .1, ap (look (a .slots .now) (a .image .now) (rankNumber (a .name)) 64) (s .ensures .0))
-
-cast-place : tie.Need-cast-place Inv-loop μ-loop
-cast-place c = omega (arith, c .shared-slice-known3 .given (c .before .before .loop .i))
-
-returns : tie.Need-returns Inv-loop μ-loop
 returns c =
-    let l = c .before .before .before in
-    let a = l .before .before .before .before .args in
-    let e = look-free (a .slots .now) (a .image .now) (rankNumber (a .name)) (l .loop .n) (l .loop .i) (c .before .before .loop-test .taken) (c .if1 .taken) in
-    (sym e ∙ l .loop .inv .1, λ h. absurd (omega arith))
-
-has-name-requires : tie.Need-has-name-requires Inv-loop μ-loop
-has-name-requires c κs =
-    let entered = c .before .before .before .before .before .before .before in
-    entered .pre .each (c .before .before .before .loop .i) (omega (arith, c .if1 .left))
-
-returns-2 : tie.Need-returns-2 Inv-loop μ-loop
-returns-2 c =
-    let l = c .before .before .before .before .before in
-    let a = l .before .before .before .before .args in
-    let hit = sym (c .before .has-name .ensures) ∙ c .if2 .taken in
-    let e = look-hit (a .slots .now) (a .image .now) (rankNumber (a .name)) (l .loop .n) (l .loop .i) (c .before .before .before .before .loop-test .taken) (c .before .before .if1 .left) hit in
-    (sym e ∙ l .loop .inv .1, λ h. l .before .before .before .before .pre .each (l .loop .i) h)
-
-loop-again : tie.Need-loop-again Inv-loop μ-loop
-loop-again c =
-    let l = c .before .before .before .before .before in
-    let a = l .before .before .before .before .args in
-    let miss = sym (c .before .has-name .ensures) ∙ c .if2 .left in
-    let e = look-miss (a .slots .now) (a .image .now) (rankNumber (a .name)) (l .loop .n) (l .loop .i) (c .before .before .before .before .loop-test .taken) (c .before .before .if1 .left) miss in
-    (search needs, sym e ∙ l .loop .inv .1)
-
-returns-3 : tie.Need-returns-3 Inv-loop μ-loop
-returns-3 c =
-    let l = c .before in
-    let a = l .before .before .before .before .args in
-    let e = look-end (a .slots .now) (a .image .now) (rankNumber (a .name)) (l .loop .n) (l .loop .i) (c .loop-test .left) in
-    (sym e ∙ l .loop .inv .1, λ h. absurd (omega arith))
+    let a = c .before .before .before in
+    let e = ap (λ (u : Stop). u .place) (c .stop-of .ensures) in
+    (e, λ h. rw e (told-slot (a .args .slots .now) (a .args .image .now) (rankNumber (a .args .name)) (Placed (a .args .image .now)) (a .pre .each) (rw e at h)))
 
 pub find-spec : {M : Type 1} → statement M
-find-spec =
-    tie.close
-    (tie.spec
-    Inv-loop
-    μ-loop
-    (λ c κs. search needs)
-    loop-holds
-    (λ c. search needs)
-    (λ c. search needs)
-    cast-place
-    returns
-    has-name-requires
-    returns-2
-    (λ c. search needs)
-    (λ c. search needs)
-    (λ c. search needs)
-    loop-again
-    returns-3)
+find-spec = tie.close (tie.spec (λ c κs. search needs) returns)
