@@ -21,56 +21,10 @@ Inv-loop t image sectors rows₀ n₀ rows n = (length rows ≡ 16) × (n ≤ se
 abbrev μ-loop : tie.MeasureT-loop
 μ-loop t image sectors rows₀ n₀ rows n = sectors - n
 
--- src/lib.rt:42:21
-blank-record-requires : tie.Need-blank-record-requires Inv-loop μ-loop
-blank-record-requires c κs = search needs
-
--- src/lib.rt:44:5
 loop-holds : tie.Need-loop-holds Inv-loop μ-loop
 unfolding recordsTo
 loop-holds c = (search needs, search needs, rw (c .blank-record .ensures))
 
--- src/lib.rt:45:17
-mul-a : tie.Need-mul-a Inv-loop μ-loop
-mul-a c = search needs
-
--- src/lib.rt:46:17
-add-e : tie.Need-add-e Inv-loop μ-loop
-add-e c = search needs
-
--- src/lib.rt:47:40
-sub-page-record : tie.Need-sub-page-record Inv-loop μ-loop
-sub-page-record c = search needs
-
--- src/lib.rt:47:40
-part-page-record-start : tie.Need-part-page-record-start Inv-loop μ-loop
-part-page-record-start c = search needs
-
--- src/lib.rt:47:40
-part-page-record-end : tie.Need-part-page-record-end Inv-loop μ-loop
-part-page-record-end c = search needs
-
--- src/lib.rt:47:19
-page-record-requires : tie.Need-page-record-requires Inv-loop μ-loop
-page-record-requires c κs = search needs
-
--- src/lib.rt:47:9
-mul-rows : tie.Need-mul-rows Inv-loop μ-loop
-mul-rows c = search needs
-
--- src/lib.rt:47:9
-array-set-from-rows : tie.Need-array-set-from-rows Inv-loop μ-loop
-array-set-from-rows c = search needs
-
--- src/lib.rt:48:9
-add-n : tie.Need-add-n Inv-loop μ-loop
-add-n c = search needs
-
--- src/lib.rt:44:5
-loop-less : tie.Need-loop-less Inv-loop μ-loop
-loop-less c = search needs
-
--- src/lib.rt:44:5
 loop-again : tie.Need-loop-again Inv-loop μ-loop
 loop-again c =
     let l = c .before .before .before in
@@ -83,7 +37,6 @@ loop-again c =
       ap₂ (λ (rows : List PageRecord) (r : PageRecord). set rows n r) (i .2) seen ∙ row-read image n (omega arith),
     )
 
--- src/lib.rt:38:1
 returns : tie.Need-returns Inv-loop μ-loop
 returns c =
     let l = c .before in
@@ -97,17 +50,17 @@ read-rows-spec =
     (tie.spec
     Inv-loop
     μ-loop
-    blank-record-requires
+    (λ c κs. search needs)
     loop-holds
-    mul-a
-    add-e
-    sub-page-record
-    part-page-record-start
-    part-page-record-end
-    page-record-requires
-    mul-rows
-    array-set-from-rows
-    add-n
-    loop-less
+    (λ c. search needs)
+    (λ c. search needs)
+    (λ c. search needs)
+    (λ c. search needs)
+    (λ c. search needs)
+    (λ c κs. search needs)
+    (λ c. search needs)
+    (λ c. search needs)
+    (λ c. search needs)
+    (λ c. search needs)
     loop-again
     returns)
