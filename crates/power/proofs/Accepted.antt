@@ -20,8 +20,8 @@ use Rattle.table.specs.declared.Page.{Page}
 use Rattle.table.specs.Table.{freeing, freeingPage, pageAt, pages, sequence, wholeSectors}
 use Rattle.table.proofs.Pages.{page-state, pages-in}
 use Rattle.finishing.specs.Finishing.{freeings}
-use Rattle.recover.specs.Recover.{accepted, tooHigh}
-use Rattle.recover.proofs.Listed.{none-freeing}
+use Rattle.stages.specs.Stages.{accepted, tooHigh}
+use Rattle.stages.proofs.Listed.{none-freeing}
 use Rattle.power.proofs.State.{AllFree, Good, Old, Side, Source, State, Target, TargetRecord, done, freeings-one, full, gone, junk, junk-page, old-full, old-sequence, partly, same, source-record, target-page, target-record}
 use Rattle.power.proofs.Quiet.{Rest, freeings-none}
 use Rattle.power.proofs.Steps.{done-final, gone-final}

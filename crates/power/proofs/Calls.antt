@@ -14,7 +14,7 @@ use Rattle.answer.specs.Staged.{untag, answerOf}
 use Rattle.answer.proofs.Tagged.{made-no-refusal}
 use Rattle.answer.proofs.Made.{length-untag, done-fits}
 use Rattle.table.specs.Table.{sectorsOf, wholeSectors, pages}
-use Rattle.recover.specs.Recover.{tooHigh, recovering, accepted, recovery}
+use Rattle.stages.specs.Stages.{tooHigh, recovering, accepted, recovery}
 use Rattle.recover.specs.Promise.{called, calling, wholeAnswer, recoverAnswer}
 use Rattle.recover.proofs.Fixed.{recover-answer}
 use Rattle.recover.proofs.Ends.{recover-ended}

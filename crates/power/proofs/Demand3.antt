@@ -3,7 +3,7 @@ use mathlib.Core.Path.{_∙_, _≡_, ap}
 use mathlib.Core.List.{List}
 use Prim.Native.Nat.{ℕ}
 use Rattle.flash.specs.Step.{run}
-use Rattle.recover.specs.Recover.{recovery}
+use Rattle.stages.specs.Stages.{recovery}
 use Rattle.power.specs.Demand3.{Demand3, Safe, Store, failing, held, recovered}
 use Rattle.power.specs.General.{Leaves}
 use Rattle.power.proofs.General.{general-cuts}

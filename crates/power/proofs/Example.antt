@@ -28,7 +28,7 @@ use Rattle.finishing.specs.Finishing.{freeings}
 use Rattle.found.specs.Found.{Found, foundOn, found, isPart, groupOf, eraseAll}
 use Rattle.blobs.specs.Blobs.{blobSteps}
 use Rattle.duplicates.specs.Duplicates.{outdated, onceEach, groups, duplicateSteps, lastMarks, duplicateStage}
-use Rattle.recover.specs.Recover.{lastStages, afterOrder, recovering, tooHigh, accepted}
+use Rattle.stages.specs.Stages.{lastStages, afterOrder, recovering, tooHigh, accepted}
 use Rattle.reclaim.specs.declared.plan.Plan.the-variants.{Move}
 use Rattle.reclaim.specs.Reclaim.{points, chosen, planTo, planWith, plan, reclaiming}
 use Rattle.power.specs.Demand3.{Premises, Store, stored, total}

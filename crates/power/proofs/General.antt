@@ -16,7 +16,7 @@ use Rattle.lists.specs.Lists.{sumOf}
 use Rattle.lists.proofs.Sums.{sum-le}
 use Rattle.answer.specs.Staged.{untag}
 use Rattle.finish.specs.Finish.{nameOf, sameBytes}
-use Rattle.recover.specs.Recover.{accepted, recovery}
+use Rattle.stages.specs.Stages.{accepted, recovery}
 use Rattle.power.specs.Demand3.{Premises, failing, recovered, recoveries, stored, total}
 use Rattle.power.specs.General.{Leaves, Unsettled}
 use Rattle.power.proofs.Accepted.{accept, accept-rest}

@@ -17,7 +17,7 @@ use Rattle.found.specs.Found.{found}
 use Rattle.blobs.specs.Blobs.{blobSteps}
 use Rattle.duplicates.specs.Duplicates.{duplicateStage}
 use Rattle.finishing.specs.Finishing.{finishFrom, finishing, freeings}
-use Rattle.recover.specs.Recover.{afterOrder, fromFinish, fromOrder, lastStages, recovering}
+use Rattle.stages.specs.Stages.{afterOrder, fromFinish, fromOrder, lastStages, recovering}
 
 -- 2, as `finishing`
 unfoldable pub finishWith : (Page → List Step) → Option Page → List Step

@@ -21,7 +21,7 @@ use Rattle.table.proofs.Pages.{page-state, pages-in}
 use Rattle.answer.specs.declared.Answer.{Answer}
 use Rattle.answer.specs.Answer.{numberOf, refusal}
 use Rattle.answer.specs.Told.{numberIn}
-use Rattle.recover.specs.Recover.{accepted, tooHigh}
+use Rattle.stages.specs.Stages.{accepted, tooHigh}
 use Rattle.reclaim.specs.Reclaim.{candidate, chosen, closed, next, noFewerPoints, reclaiming, sequencesSpent}
 use Rattle.reclaim.specs.Promise.{noSectorFree, reclaimTable}
 use Rattle.reclaim.proofs.Ends.{reclaim-ended}

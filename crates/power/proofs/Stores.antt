@@ -19,7 +19,7 @@ use Rattle.blobs.specs.Blobs.{sound}
 use Rattle.quick.specs.Calm.{Calm}
 use Rattle.quick.proofs.Counts.{one-true}
 use Rattle.answer.specs.Staged.{untag}
-use Rattle.recover.specs.Recover.{recovering}
+use Rattle.stages.specs.Stages.{recovering}
 use Rattle.power.specs.Demand3.{Premises, Store, total}
 use Rattle.power.specs.General.{Unsettled}
 use Rattle.power.proofs.Doomed.{soundBy}

@@ -5,7 +5,7 @@ use Prim.Native.Nat.{ℕ, zero, suc}
 use lib.ListN.{take}
 use Rattle.flash.specs.Step.{Step, run}
 use Rattle.answer.specs.Staged.{untag}
-use Rattle.recover.specs.Recover.{recovery}
+use Rattle.stages.specs.Stages.{recovery}
 use Rattle.reclaim.specs.Reclaim.{reclaiming}
 use Rattle.power.specs.Demand3.{Store, Safe}
 

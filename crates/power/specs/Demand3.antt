@@ -19,7 +19,7 @@ use Rattle.table.specs.Table.{pages, frees, itemsIn, sequence, activePage, free
 use Rattle.finish.specs.Finish.{sameBytes, nameOf}
 use Rattle.found.specs.Found.{isPart}
 use Rattle.answer.specs.Staged.{untag}
-use Rattle.recover.specs.Recover.{recovering, accepted, recovery}
+use Rattle.stages.specs.Stages.{recovering, accepted, recovery}
 use Rattle.reclaim.specs.Reclaim.{candidate, reclaiming}
 
 -- the items of a store: those of each page of the list, each with its bytes, header and payload

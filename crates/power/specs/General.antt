@@ -15,7 +15,7 @@ use Rattle.table.specs.Table.{pages, frees}
 use Rattle.found.specs.Found.{Found, found, isIndex, versionOf, groupOf}
 use Rattle.blobs.specs.Blobs.{sound}
 use Rattle.duplicates.specs.Duplicates.{ranked}
-use Rattle.recover.specs.Recover.{accepted}
+use Rattle.stages.specs.Stages.{accepted}
 use Rattle.reclaim.specs.Reclaim.{reclaiming}
 use Rattle.power.specs.Demand3.{Premises, total, held, recovered}
 use Rattle.power.specs.Cuts.{Cut, Begun}

@@ -13,7 +13,7 @@ use Rattle.answer.specs.Staged.{answerOf}
 use Rattle.answer.specs.Told.{numberIn, Told}
 use Rattle.answer.proofs.Values.{refusal-told, answer-told}
 use Rattle.table.specs.Table.{sectorsOf, wholeSectors, pages}
-use Rattle.recover.specs.Recover.{tooHigh, recovering, accepted, recovery}
+use Rattle.stages.specs.Stages.{tooHigh, recovering, accepted, recovery}
 use Rattle.recover.specs.Promise.{called, recoverTable, wholeAnswer, recoverAnswer}
 
 -- ---- the list of steps

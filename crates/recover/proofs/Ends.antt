@@ -33,7 +33,7 @@ use Rattle.blobs.specs.Blobs.{blobSteps}
 use Rattle.blobs.proofs.Lengths.{blobs-most}
 use Rattle.duplicates.specs.Duplicates.{duplicateSteps, lastMarks, duplicateStage}
 use Rattle.duplicates.proofs.Lengths.{duplicates-most, marks-most}
-use Rattle.recover.specs.Recover.{lastStages, fromOrder, fromFinish, afterOrder, recovering, tooHigh, accepted, recovery}
+use Rattle.stages.specs.Stages.{lastStages, fromOrder, fromFinish, afterOrder, recovering, tooHigh, accepted, recovery}
 use Rattle.recover.specs.Promise.{called, recoverTable, mostSteps, RecoverPromise}
 use Rattle.recover.proofs.Numbers.{number-7}
 

@@ -1,5 +1,3 @@
-pub mod Sequence
-pub mod Listed
 pub mod Answered
 pub mod Numbers
 pub mod Promised

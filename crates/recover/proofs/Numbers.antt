@@ -16,7 +16,7 @@ use Rattle.answer.proofs.Numbers.{absent, once, positive, given, given-last, no
 use Rattle.lists.specs.Lists.{greatest}
 use Rattle.table.specs.Table.{sectorsOf, wholeSectors, pages, sequence}
 use Rattle.finishing.specs.Finishing.{freeings}
-use Rattle.recover.specs.Recover.{tooHigh}
+use Rattle.stages.specs.Stages.{tooHigh}
 use Rattle.recover.specs.Promise.{called, recoverTable}
 
 -- of "1, 2, 6; then steps" no condition before that of the number k holds

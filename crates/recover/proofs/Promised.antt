@@ -24,7 +24,7 @@ use Rattle.records.specs.declared.Rows.{Rows}
 use Rattle.records.specs.Records.{filled, noRows, rowsOf}
 use Rattle.records.proofs.Reading.{rows-read}
 use Rattle.recover.specs.declared.Recovered.{Recovered}
-use Rattle.recover.specs.Recover.{tooHigh, recovering}
+use Rattle.stages.specs.Stages.{tooHigh, recovering}
 use Rattle.recover.specs.Promise.{called, calling, recoverTable, wholeAnswer, recoverAnswer, recordsAfter, rowsFor, Recovers, RecoverPromise}
 use Rattle.recover.proofs.Answered.{none-whole, none-lent, none-high, steps-called, recover-told}
 

@@ -17,7 +17,7 @@ use Rattle.table.specs.Table.{sectorsOf, wholeSectors, pages}
 use Rattle.records.specs.declared.Rows.{Rows}
 use Rattle.records.specs.Records.{recordsTo, noRows, rowsOf}
 use Rattle.recover.specs.declared.Recovered.{Recovered}
-use Rattle.recover.specs.Recover.{tooHigh, recovering, recovery}
+use Rattle.stages.specs.Stages.{tooHigh, recovering, recovery}
 
 -- the steps of a call to which so many records are lent, each with its stage: a refused one makes none
 unfoldable pub called : List ℕ → ℕ → List Staged

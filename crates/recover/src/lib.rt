@@ -1,6 +1,4 @@
 // Recovery: what power loss left unfinished is finished, and what is there twice is left once.
-mod stages;
-
 use answer::Answer;
 use answer::Went;
 use layout::SECTOR_BYTES;
@@ -11,7 +9,7 @@ ghost use mathlib.Core.Path.{_≡_};
 ghost use lib.ListN.{length};
 ghost use Rattle.table.specs.Table.{listed, Sized};
 ghost use Rattle.records.specs.Records.{noRows};
-ghost use Rattle.recover.specs.Recover.{tooHigh};
+ghost use Rattle.stages.specs.Stages.{tooHigh};
 ghost use Rattle.recover.specs.Promise.{Recovers, RecoverPromise};
 
 // The answer, and the rows to store: none where the call is refused or stopped.

@@ -1,7 +1,7 @@
 -- `recover::is_too_high` meets its contract: without a Freeing page no sequence is taken. Assumes nothing.
 use mathlib.Core.Path.{sym, _∙_}
 use Rattle.table.specs.Table.{listed}
-use Rattle.recover.proofs.Listed.{none-freeing, some-freeing}
+use Rattle.stages.proofs.Listed.{none-freeing, some-freeing}
 use borrow.Author.Needs.{needs}
 use Rattle.recover.proofs.is_too_high.Statement.{statement}
 use Rattle.recover.proofs.is_too_high.Tie as tie

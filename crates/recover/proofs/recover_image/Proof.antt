@@ -1,7 +1,7 @@
 -- `recover::recover_image` meets its contract: each refusal in its order, and what the stages made. Assumes nothing.
 use mathlib.Core.Path.{sym, ap, _∙_}
 use borrow.Author.Tests.{not-true, not-false}
-use Rattle.recover.specs.Recover.{tooHigh}
+use Rattle.stages.specs.Stages.{tooHigh}
 use Rattle.table.proofs.Whole.{whole-is}
 use Rattle.recover.proofs.Promised.{refused-sectors, refused-records, refused-sequences, stopped-short, ended-rows, made-size}
 use borrow.Author.Needs.{needs}

@@ -1,9 +1,9 @@
--- `recover::from_finish` meets its contract: stage 2, and then the scan of what it left. Assumes nothing.
+-- `stages::from_finish` meets its contract: stage 2, and then the scan of what it left. Assumes nothing.
 use Rattle.table.specs.Table.{listed, freed}
-use Rattle.recover.proofs.Sequence.{finish-stop, finish-on}
+use Rattle.stages.proofs.Sequence.{finish-stop, finish-on}
 use borrow.Author.Needs.{needs}
-use Rattle.recover.proofs.stages.from_finish.Statement.{statement}
-use Rattle.recover.proofs.stages.from_finish.Tie as tie
+use Rattle.stages.proofs.from_finish.Statement.{statement}
+use Rattle.stages.proofs.from_finish.Tie as tie
 
 returns : tie.Need-returns
 returns c =

@@ -1,4 +1,4 @@
--- `recover::repair` meets its contract: each stage judges by the items found on the image as it stands. Assumes nothing.
+-- `stages::repair` meets its contract: each stage judges by the items found on the image as it stands. Assumes nothing.
 use mathlib.Core.Path.{_≡_, sym, ap, _∙_}
 use mathlib.Core.Bool.{false}
 use Prim.Native.Nat.{ℕ, _/_}
@@ -14,9 +14,9 @@ use Rattle.found.proofs.Finding.{items-found, found-placed}
 use Rattle.found.proofs.Lying.{lies-alike}
 use Rattle.blobs.specs.Blobs.{blobSteps}
 use Rattle.blobs.proofs.Parts.{no-step}
-use Rattle.recover.proofs.Sequence.{blobs-stop, blobs-on, no-blobs}
-use Rattle.recover.proofs.stages.repair.Statement.{statement}
-use Rattle.recover.proofs.stages.repair.Tie as tie
+use Rattle.stages.proofs.Sequence.{blobs-stop, blobs-on, no-blobs}
+use Rattle.stages.proofs.repair.Statement.{statement}
+use Rattle.stages.proofs.repair.Tie as tie
 
 slice-aggregate-any-part : tie.Need-slice-aggregate-any-part
 slice-aggregate-any-part c =

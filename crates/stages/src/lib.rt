@@ -1,4 +1,4 @@
-// The stages in sequence.
+// Recovery's stages in sequence.
 use answer::Stage;
 use answer::Went;
 use crc::CrcTable;
@@ -21,7 +21,7 @@ ghost use Rattle.found.specs.Places.{placeOf, Lies};
 ghost use Rattle.lists.specs.Each.{Each};
 ghost use Rattle.duplicates.specs.Duplicates.{lastMarks, duplicateStage};
 ghost use Rattle.finishing.specs.Finishing.{freeings};
-ghost use Rattle.recover.specs.Recover.{lastStages, fromOrder, fromFinish, recovering, tooHigh};
+ghost use Rattle.stages.specs.Stages.{lastStages, fromOrder, fromFinish, recovering, tooHigh};
 ghost use mathlib.Core.Bool.{false};
 
 // Where there is nothing to repair, the last marks are all that is left of the stages.

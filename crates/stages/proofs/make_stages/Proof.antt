@@ -1,11 +1,11 @@
--- `recover::make_stages` meets its contract: stage 1, and then stage 2 if a page counts as Freeing. Assumes nothing.
+-- `stages::make_stages` meets its contract: stage 1, and then stage 2 if a page counts as Freeing. Assumes nothing.
 use mathlib.Core.Path.{sym, ap, _∙_}
 use Rattle.finishing.specs.Finishing.{freeings}
-use Rattle.recover.proofs.Sequence.{all-stop, none-on, some-on}
-use Rattle.recover.proofs.Listed.{held-placed, stage-1, sequences-left}
+use Rattle.stages.proofs.Sequence.{all-stop, none-on, some-on}
+use Rattle.stages.proofs.Listed.{held-placed, stage-1, sequences-left}
 use borrow.Author.Needs.{needs}
-use Rattle.recover.proofs.stages.make_stages.Statement.{statement}
-use Rattle.recover.proofs.stages.make_stages.Tie as tie
+use Rattle.stages.proofs.make_stages.Statement.{statement}
+use Rattle.stages.proofs.make_stages.Tie as tie
 
 order-pages-requires : tie.Need-order-pages-requires
 order-pages-requires c κs = (c .before .before .pre .1 .sized, held-placed (c .before .before .args .image .now) (c .before .before .pre .3) (c .before .before .pre .1))

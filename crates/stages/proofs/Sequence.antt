@@ -23,7 +23,7 @@ use Rattle.blobs.specs.Blobs.{blobSteps}
 use Rattle.duplicates.specs.Duplicates.{lastMarks, duplicateStage}
 use Rattle.quick.specs.Calm.{Calm, tot}
 use Rattle.quick.proofs.Idle.{blob-idle, duplicate-idle}
-use Rattle.recover.specs.Recover.{lastStages, fromOrder, fromFinish, afterOrder, recovering}
+use Rattle.stages.specs.Stages.{lastStages, fromOrder, fromFinish, afterOrder, recovering}
 
 -- ---- stages 3 and 4
 

@@ -1,9 +1,9 @@
--- `recover::after_blobs` meets its contract: where the quick test says yes, the last marks are the stage. Assumes nothing.
+-- `stages::after_blobs` meets its contract: where the quick test says yes, the last marks are the stage. Assumes nothing.
 use Rattle.table.specs.Table.{listed}
-use Rattle.recover.proofs.Sequence.{calm-last}
+use Rattle.stages.proofs.Sequence.{calm-last}
 use borrow.Author.Needs.{needs}
-use Rattle.recover.proofs.stages.after_blobs.Statement.{statement}
-use Rattle.recover.proofs.stages.after_blobs.Tie as tie
+use Rattle.stages.proofs.after_blobs.Statement.{statement}
+use Rattle.stages.proofs.after_blobs.Tie as tie
 
 returns : tie.Need-returns
 returns c =

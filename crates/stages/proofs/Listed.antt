@@ -30,7 +30,7 @@ use Rattle.lists.specs.Each.{Each}
 use Rattle.lists.proofs.Each.{each-of}
 use Rattle.found.proofs.Lying.{lies-same, pages-lie}
 use Rattle.finishing.specs.Finishing.{freeings}
-use Rattle.recover.specs.Recover.{tooHigh}
+use Rattle.stages.specs.Stages.{tooHigh}
 
 pub held-placed : (l : List ℕ) {t : Table} → sectorsOf l ≤ 16 → Holds t (pages l) (frees l) → PagesPlaced (sectorsOf l) (listed t) (freed t)
 held-placed l s h = rw (h .list, h .free) (pages-placed l s)

@@ -1,9 +1,9 @@
--- `recover::last_stages` meets its contract: where the quick test says yes, the last marks are the stages. Assumes nothing.
+-- `stages::last_stages` meets its contract: where the quick test says yes, the last marks are the stages. Assumes nothing.
 use Rattle.table.specs.Table.{listed}
-use Rattle.recover.proofs.Sequence.{calm-stages}
+use Rattle.stages.proofs.Sequence.{calm-stages}
 use borrow.Author.Needs.{needs}
-use Rattle.recover.proofs.stages.last_stages.Statement.{statement}
-use Rattle.recover.proofs.stages.last_stages.Tie as tie
+use Rattle.stages.proofs.last_stages.Statement.{statement}
+use Rattle.stages.proofs.last_stages.Tie as tie
 
 returns : tie.Need-returns
 returns c =

@@ -1,10 +1,10 @@
--- `recover::from_order` meets its contract: stage 1, and the next two on what it left. Assumes nothing.
+-- `stages::from_order` meets its contract: stage 1, and the next two on what it left. Assumes nothing.
 use Rattle.table.specs.Table.{pages}
-use Rattle.recover.proofs.Sequence.{order-stop, order-on}
-use Rattle.recover.proofs.Listed.{held-placed, stage-1}
+use Rattle.stages.proofs.Sequence.{order-stop, order-on}
+use Rattle.stages.proofs.Listed.{held-placed, stage-1}
 use borrow.Author.Needs.{needs}
-use Rattle.recover.proofs.stages.from_order.Statement.{statement}
-use Rattle.recover.proofs.stages.from_order.Tie as tie
+use Rattle.stages.proofs.from_order.Statement.{statement}
+use Rattle.stages.proofs.from_order.Tie as tie
 
 order-pages-requires : tie.Need-order-pages-requires
 order-pages-requires c κs = (c .before .before .pre .1 .sized, held-placed (c .before .before .args .image .now) (c .before .before .pre .2) (c .before .before .pre .1))
