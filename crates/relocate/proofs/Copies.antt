@@ -65,24 +65,35 @@ ready-packed q R T D =
     rw z at (D .packed)
 
 module _ (q : ℕ) (R : List (List ℕ)) where
-  -- all items copied
-  pub copies-end : (T : List ℕ) (ys : List (List ℕ)) (p : ℕ) (xs : List Laid) → Shape q T ys p → (p < 126) → Word4 T 0xFE
-      → Packed T p → ys ++ raws xs ≡ R → p + spans (raws xs) ≤ 126 → AllFine (raws xs) → Ready q R (run (copies 0 p xs) T)
+  -- where the page is full, nothing is left to copy
+  none-more : (T : List ℕ) (ys : List (List ℕ)) (p : ℕ) (xs : List Laid) → Shape q T ys p → Packed T p → p ≡ 126 → Word4 T 0xFC → ys ++ raws xs ≡ R
+      → p + spans (raws xs) ≤ 126 → AllFine (raws xs) → Ready q R (run (copies 0 p xs) T)
   unfolding copies run sumOf
-  copies-end T ys p [] H h W K e f F = let z : ys ≡ R = sym (append-nil ys) ∙ e in record { p = p; shape = rw z at H; packed = K; word = inl (h, W) }
-  copies-end T ys p (x ∷ xs) H h W K e f F =
+  none-more T ys p [] S k z w e f F = let y : ys ≡ R = sym (append-nil ys) ∙ e in record { p = p; shape = rw y at S; packed = k; word = inr w }
+  none-more T ys p (x ∷ xs) S k z w e f F = let b = F .0 .some in absurd (omega arith)
+
+  -- one item copied, and then the rest
+  one-more : (T : List ℕ) (ys : List (List ℕ)) (p : ℕ) (x : Laid) (xs : List Laid) → Shape q T ys p → Word4 T 0xFE → Packed T p
+      → ys ++ raws (x ∷ xs) ≡ R → p + spans (raws (x ∷ xs)) ≤ 126 → AllFine (raws (x ∷ xs))
+      → (let T′ = run (copying 0 p (x .raw)) T in let ys′ = ys ++ (x .raw ∷ []) in let p′ = p + spanOf (x .raw) in
+      Shape q T′ ys′ p′ → (p′ < 126) → Word4 T′ 0xFE → Packed T′ p′ → ys′ ++ raws xs ≡ R → p′ + spans (raws xs) ≤ 126 → AllFine (raws xs) → Ready q R (run (copies 0 p′ xs) T′))
+      → Ready q R (run (copies 0 p (x ∷ xs)) T)
+  unfolding copies sumOf
+  one-more T ys p x xs H W K e f F rest =
       let r = x .raw in
-      let T′ = run (copying 0 p r) T in
       let d = item-end q T ys p H r (F .0) (omega arith) K W in
       let a : (ys ++ (r ∷ [])) ++ raws xs ≡ R = append-assoc ys (r ∷ []) (raws xs) ∙ e in
       rw (run-append (copying 0 p r) (copies 0 (p + spanOf r) xs) T)
-      (⊎-elim (λ k. copies-end T′ (ys ++ (r ∷ [])) (p + spanOf r) xs (d .0) (k .0) (k .1) (d .1) a (omega arith) (F .1))
-      (λ k. last T′ (ys ++ (r ∷ [])) (p + spanOf r) xs (d .0) (d .1) (k .0) (k .1) a (omega arith) (F .1)) (d .2))
-    where
-      last : (T′ : List ℕ) (ys′ : List (List ℕ)) (p′ : ℕ) (xs : List Laid) → Shape q T′ ys′ p′ → Packed T′ p′ → p′ ≡ 126 → Word4 T′ 0xFC → ys′ ++ raws xs ≡ R
-          → p′ + spans (raws xs) ≤ 126 → AllFine (raws xs) → Ready q R (run (copies 0 p′ xs) T′)
-      last T′ ys′ p′ [] S k z w a g K = let y : ys′ ≡ R = sym (append-nil ys′) ∙ a in record { p = p′; shape = rw y at S; packed = k; word = inr w }
-      last T′ ys′ p′ (y ∷ xs) S k z w a g K = let b = K .0 .some in absurd (omega arith)
+      (⊎-elim (λ k. rest (d .0) (k .0) (k .1) (d .1) a (omega arith) (F .1))
+      (λ k. none-more (run (copying 0 p r) T) (ys ++ (r ∷ [])) (p + spanOf r) xs (d .0) (d .1) (k .0) (k .1) a (omega arith) (F .1)) (d .2))
+
+  -- all items copied
+  pub copies-end : (T : List ℕ) (ys : List (List ℕ)) (p : ℕ) (xs : List Laid) → Shape q T ys p → (p < 126) → Word4 T 0xFE
+      → Packed T p → ys ++ raws xs ≡ R → p + spans (raws xs) ≤ 126 → AllFine (raws xs) → Ready q R (run (copies 0 p xs) T)
+  unfolding copies run
+  copies-end T ys p [] H h W K e f F = let z : ys ≡ R = sym (append-nil ys) ∙ e in record { p = p; shape = rw z at H; packed = K; word = inl (h, W) }
+  copies-end T ys p (x ∷ xs) H h W K e f F =
+      one-more T ys p x xs H W K e f F (copies-end (run (copying 0 p (x .raw)) T) (ys ++ (x .raw ∷ [])) (p + spanOf (x .raw)) xs)
 
   -- a cut anywhere
   pub copies-cut : (T : List ℕ) (ys : List (List ℕ)) (p : ℕ) (xs : List Laid) (k : ℕ) → Shape q T ys p → (p < 126) → Word4 T 0xFE

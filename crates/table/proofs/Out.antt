@@ -17,6 +17,11 @@ module _ {A : Type 0} where
   dropLast-append (x ∷ []) y = refl
   dropLast-append (x ∷ (w ∷ ws)) y = ap {B = List A} (λ (r : List A). x ∷ r) (dropLast-append (w ∷ ws) y)
 
+  -- of none there is none to take
+  pub out-none : (p : A → Bool) (xs : List A) (k : ℕ) → k ≡ 0 → take k xs ≡ takeOut p (take k xs)
+  unfolding takeOut outWith
+  out-none p xs k z = rw z
+
   -- the last of the first k, and the others
   module _ (xs : List A) (k : ℕ) (d : A) (room : k ≤ length xs) (one-or-more : k ≡ 0 → ⊥) where
     front : take k xs ≡ take (k - 1) xs ++ (getD xs (k - 1) d ∷ [])

@@ -29,38 +29,43 @@ loop-holds c = (omega arith, marked-none _, goes-start _ _ _)
 
 loop-again : tie.Need-loop-again Inv-loop μ-loop
 loop-again c =
-    let at-loop = c .before .before .before .before .before in
+    let at-loop-test = c .before .before .before .before in
+    let more = at-loop-test .loop-test .taken in
+    let at-loop = at-loop-test .before in
     let a = at-loop .before .before in
     let l = at-loop .loop in
     let t = a .args .t2 in (
-      omega arith,
+      omega (arith, more),
       l .inv .1,
       goes-same (l .inv .2) (
-          ap (λ (ps : List Page). lastMarks ps (a .args .image .now)) (element (t .pages) (t .count) (a .pre .0 .list) (l .i) _ (omega arith))
+          ap (λ (ps : List Page). lastMarks ps (a .args .image .now)) (element (t .pages) (t .count) (a .pre .0 .list) (l .i) _ (omega (arith, more)))
           ∙ mark-other _ _ _ (sym (c .before .is-active .ensures) ∙ not-true _ (c .if1 .taken))
           ),
     )
 
 empty-in-requires : tie.Need-empty-in-requires Inv-loop μ-loop
 empty-in-requires c κs =
-    let at-loop = c .before .before .before .before .before .before .before in
+    let at-loop-test = c .before .before .before .before .before .before in
+    let at-loop = at-loop-test .before in
     let a = at-loop .before .before in
     let l = at-loop .loop in
     let t = a .args .t2 in
-    page-fits (a .args .image .now) (l .image) (a .pre .1) (l .inv .1 .size) _ (in-front (t .pages) (t .count) (l .i) _ (a .pre .0 .list) (omega arith))
+    page-fits (a .args .image .now) (l .image) (a .pre .1) (l .inv .1 .size) _ (in-front (t .pages) (t .count) (l .i) _ (a .pre .0 .list) (omega (arith, at-loop-test .loop-test .taken)))
 
 loop-again-2 : tie.Need-loop-again-2 Inv-loop μ-loop
 loop-again-2 c =
     let at-if1 = c .before .before .before .before in
     let at-is-active = at-if1 .before in
-    let at-loop = at-is-active .before .before .before .before in
+    let at-loop-test = at-is-active .before .before .before in
+    let more = at-loop-test .loop-test .taken in
+    let at-loop = at-loop-test .before in
     let a = at-loop .before .before in
     let l = at-loop .loop in
     let t = a .args .t2 in (
-      omega arith,
+      omega (arith, more),
       l .inv .1,
       goes-same (l .inv .2) (
-          ap (λ (ps : List Page). lastMarks ps (a .args .image .now)) (element (t .pages) (t .count) (a .pre .0 .list) (l .i) _ (omega arith))
+          ap (λ (ps : List Page). lastMarks ps (a .args .image .now)) (element (t .pages) (t .count) (a .pre .0 .list) (l .i) _ (omega (arith, more)))
           ∙ mark-roomy _ _ _ (sym (at-is-active .is-active .ensures) ∙ not-false _ (at-if1 .if1 .left)) (ne-eqb _ _ (λ q. c .if2 .taken (c .before .empty-in .ensures ∙ l .inv .1 .room _ ∙ q)))
           ),
     )
@@ -81,12 +86,14 @@ returns c =
     let at-empty-in = at-if2 .before in
     let at-if1 = at-empty-in .before .before .before in
     let at-is-active = at-if1 .before in
-    let at-loop = at-is-active .before .before .before .before in
+    let at-loop-test = at-is-active .before .before .before in
+    let more = at-loop-test .loop-test .taken in
+    let at-loop = at-loop-test .before in
     let a = at-loop .before .before in
     let l = at-loop .loop in
     let t = a .args .t2 in
     goes-stop _ (l .inv .2) (
-    ap (λ (ps : List Page). lastMarks ps (a .args .image .now)) (element (t .pages) (t .count) (a .pre .0 .list) (l .i) _ (omega arith))
+    ap (λ (ps : List Page). lastMarks ps (a .args .image .now)) (element (t .pages) (t .count) (a .pre .0 .list) (l .i) _ (omega (arith, more)))
     ∙ mark-more _ _ _ (sym (at-is-active .is-active .ensures) ∙ not-false _ (at-if1 .if1 .left)) (eq-eqb _ _ (sym (l .inv .1 .room _) ∙ sym (at-empty-in .empty-in .ensures) ∙ at-if2 .if2 .left))
     ) (at-mark-full .mark-full .ensures) (c .enum-told .given .1)
 
@@ -97,14 +104,16 @@ loop-again-3 c =
     let at-empty-in = at-if2 .before in
     let at-if1 = at-empty-in .before .before .before in
     let at-is-active = at-if1 .before in
-    let at-loop = at-is-active .before .before .before .before in
+    let at-loop-test = at-is-active .before .before .before in
+    let more = at-loop-test .loop-test .taken in
+    let at-loop = at-loop-test .before in
     let a = at-loop .before .before in
     let l = at-loop .loop in
     let t = a .args .t2 in (
-      omega arith,
+      omega (arith, more),
       marked-more _ (at-mark-full .mark-full .ensures) (l .inv .1),
       goes-on (l .inv .2) (
-          ap (λ (ps : List Page). lastMarks ps (a .args .image .now)) (element (t .pages) (t .count) (a .pre .0 .list) (l .i) _ (omega arith))
+          ap (λ (ps : List Page). lastMarks ps (a .args .image .now)) (element (t .pages) (t .count) (a .pre .0 .list) (l .i) _ (omega (arith, more)))
           ∙ mark-more _ _ _ (sym (at-is-active .is-active .ensures) ∙ not-false _ (at-if1 .if1 .left)) (eq-eqb _ _ (sym (l .inv .1 .room _) ∙ sym (at-empty-in .empty-in .ensures) ∙ at-if2 .if2 .left))
           ) (at-mark-full .mark-full .ensures) (c .before .r .given .1),
     )

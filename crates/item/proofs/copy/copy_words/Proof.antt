@@ -31,30 +31,34 @@ loop-holds c = (omega arith, refl, refl, rw sub-zero (goes-start _ _ _))
 returns : tie.Need-returns Inv-loop μ-loop
 returns c =
     let p = c .before .before .before .before in
-    let l = p .before .before .before .before .before .before .before in
-    let a = l .before .before .args in
-    let v = l .loop in
-    let made = did-lent (a .to) (a .end - a .to) (v .image) (every-one _ _ (omega arith)) (p .program-word .ensures) in
-    goes-stop _ (v .inv .3) (copy-more (a .to) (a .from) (a .n) (v .k) (omega arith) (v .image) (a .image .now) (v .inv .2)) made (c .enum-told .given .1)
+    let at-test = p .before .before .before .before .before .before in
+    let more = at-test .loop-test .taken in
+    let start = at-test .before .before .before in
+    let a = start .args in
+    let v = at-test .before .loop in
+    let made = did-lent (a .to) (a .end - a .to) (v .image) (every-one _ _ (omega (arith, more, start .pre .1))) (p .program-word .ensures) in
+    goes-stop _ (v .inv .3) (copy-more (a .to) (a .from) (a .n) (v .k) more (v .image) (a .image .now) (v .inv .2)) made (c .enum-told .given .1)
 
 loop-again : tie.Need-loop-again Inv-loop μ-loop
 loop-again c =
     let p = c .before .before .before .before .before in
-    let l = p .before .before .before .before .before .before .before in
-    let a = l .before .before .args in
-    let v = l .loop in
-    let made = did-lent (a .to) (a .end - a .to) (v .image) (every-one _ _ (omega arith)) (p .program-word .ensures) in (
-      omega arith,
+    let at-test = p .before .before .before .before .before .before in
+    let more = at-test .loop-test .taken in
+    let start = at-test .before .before .before in
+    let a = start .args in
+    let v = at-test .before .loop in
+    let made = did-lent (a .to) (a .end - a .to) (v .image) (every-one _ _ (omega (arith, more, start .pre .1))) (p .program-word .ensures) in (
+      omega (arith, more),
       search needs,
-      did-kept (a .to) (a .to + a .n * 4) (a .from) (a .n * 4) (every-one _ _ (omega arith, omega arith)) (l .before .before .pre .3) made ∙ v .inv .2,
-      goes-on (v .inv .3) (copy-more (a .to) (a .from) (a .n) (v .k) (omega arith) (v .image) (a .image .now) (v .inv .2)) made (c .before .r .given .1),
+      did-kept (a .to) (a .to + a .n * 4) (a .from) (a .n * 4) (every-one _ _ (omega (arith, more), omega (arith, more))) (start .pre .3) made ∙ v .inv .2,
+      goes-on (v .inv .3) (copy-more (a .to) (a .from) (a .n) (v .k) more (v .image) (a .image .now) (v .inv .2)) made (c .before .r .given .1),
     )
 
 returns-2 : tie.Need-returns-2 Inv-loop μ-loop
 returns-2 c =
     let l = c .before in
     let a = l .before .before .args in
-    goes-end (l .loop .inv .3) (words-end (a .to) (part (a .image .now) (a .from) (a .n * 4)) (l .loop .k) (a .n) (omega arith))
+    goes-end (l .loop .inv .3) (words-end (a .to) (part (a .image .now) (a .from) (a .n * 4)) (l .loop .k) (a .n) (omega (arith, c .loop-test .left)))
 
 pub copy-words-spec : {M : Type 1} → statement M
 copy-words-spec =
