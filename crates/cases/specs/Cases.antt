@@ -16,7 +16,7 @@ use Rattle.flash.specs.Step.{and8, put, andWord}
 use Rattle.item.specs.Initialise.{bytes4}
 use Rattle.lists.specs.Lists.{keep, better, best, greatest}
 use Rattle.table.specs.declared.Page.{Page}
-use Rattle.reclaim.specs.Reclaim.{points, chosen}
+use Rattle.plan.specs.Plan.{points, chosen}
 
 -- a sector's bytes up to its first four states, which are b
 abbrev pub statesOf : ℕ → List ℕ

@@ -29,8 +29,9 @@ use Rattle.found.specs.Found.{Found, foundOn, found, isPart, groupOf, eraseAll}
 use Rattle.blobs.specs.Blobs.{blobSteps}
 use Rattle.duplicates.specs.Duplicates.{outdated, onceEach, groups, duplicateSteps, lastMarks, duplicateStage}
 use Rattle.stages.specs.Stages.{lastStages, afterOrder, recovering, tooHigh, accepted}
-use Rattle.reclaim.specs.declared.plan.Plan.the-variants.{Move}
-use Rattle.reclaim.specs.Reclaim.{points, chosen, planTo, planWith, plan, reclaiming}
+use Rattle.plan.specs.declared.Plan.the-variants.{Move}
+use Rattle.plan.specs.Plan.{points, chosen, planTo, planWith, plan}
+use Rattle.reclaim.specs.Reclaim.{reclaiming}
 use Rattle.power.specs.Demand3.{Premises, Store, stored, total}
 use Rattle.power.specs.Example.{first, second, third, page, image, Example}
 use Rattle.power.proofs.Same.{same-eq, same-refl}

@@ -29,8 +29,9 @@ use Rattle.table.specs.Table.{activePage, frees, itemsIn, pageAt, pages, sector
 use Rattle.table.proofs.Pages.{frees-in, in-pages, page-erased, pages-in, listed-items}
 use Rattle.table.proofs.Records.{record-sequence}
 use Rattle.answer.specs.declared.Answer.the-variants.{ActiveStands, NotReclaimable, SequencesSpent}
-use Rattle.reclaim.specs.declared.plan.Plan.the-variants.{Clear, Move, Refuse}
-use Rattle.reclaim.specs.Reclaim.{candidate, chosen, closed, next, plan, planSteps, planTo, planWith, reclaiming}
+use Rattle.plan.specs.declared.Plan.the-variants.{Clear, Move, Refuse}
+use Rattle.plan.specs.Plan.{candidate, chosen, closed, next, plan, planTo, planWith}
+use Rattle.reclaim.specs.Reclaim.{planSteps, reclaiming}
 use Rattle.power.specs.Demand3.{Premises}
 use Rattle.power.proofs.Runs.{run-one}
 use Rattle.power.proofs.Unmade.{move-runs}

@@ -22,7 +22,8 @@ use Rattle.answer.specs.declared.Answer.{Answer}
 use Rattle.answer.specs.Answer.{numberOf, refusal}
 use Rattle.answer.specs.Told.{numberIn}
 use Rattle.stages.specs.Stages.{accepted, tooHigh}
-use Rattle.reclaim.specs.Reclaim.{candidate, chosen, closed, next, noFewerPoints, reclaiming, sequencesSpent}
+use Rattle.plan.specs.Plan.{candidate, chosen, closed, next, noFewerPoints, sequencesSpent}
+use Rattle.reclaim.specs.Reclaim.{reclaiming}
 use Rattle.reclaim.specs.Promise.{noSectorFree, reclaimTable}
 use Rattle.reclaim.proofs.Ends.{reclaim-ended}
 use Rattle.power.specs.Demand3.{Premises}

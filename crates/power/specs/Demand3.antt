@@ -20,7 +20,8 @@ use Rattle.finish.specs.Finish.{sameBytes, nameOf}
 use Rattle.found.specs.Found.{isPart}
 use Rattle.answer.specs.Staged.{untag}
 use Rattle.stages.specs.Stages.{recovering, accepted, recovery}
-use Rattle.reclaim.specs.Reclaim.{candidate, reclaiming}
+use Rattle.plan.specs.Plan.{candidate}
+use Rattle.reclaim.specs.Reclaim.{reclaiming}
 
 -- the items of a store: those of each page of the list, each with its bytes, header and payload
 unfoldable pub stored : List ℕ → List Laid

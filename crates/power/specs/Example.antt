@@ -4,7 +4,7 @@ use mathlib.Core.Path.{_≡_}
 use mathlib.Core.List.{List, [], _∷_, _++_}
 use Prim.Native.Nat.{ℕ}
 use lib.ListN.{replicate}
-use Rattle.reclaim.specs.declared.plan.Plan.the-variants.{Move}
+use Rattle.plan.specs.declared.Plan.the-variants.{Move}
 use Rattle.reclaim.specs.Reclaim.{planSteps, reclaiming}
 use Rattle.power.specs.Demand3.{Store}
 use Rattle.power.specs.General.{Unsettled}

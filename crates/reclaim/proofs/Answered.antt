@@ -12,9 +12,10 @@ use Rattle.answer.specs.Told.{numberIn}
 use Rattle.lists.specs.Lists.{some-of}
 use Rattle.table.specs.declared.Page.{Page}
 use Rattle.table.specs.Table.{wholeSectors, pages, frees, activePage}
-use Rattle.reclaim.specs.declared.plan.Plan.{Plan}
-use Rattle.reclaim.specs.declared.plan.Plan.the-variants.{Refuse, Clear, Move}
-use Rattle.reclaim.specs.Reclaim.{next, closed, chosen, sequencesSpent, planTo, planWith, plan, reclaiming}
+use Rattle.plan.specs.declared.Plan.{Plan}
+use Rattle.plan.specs.declared.Plan.the-variants.{Refuse, Clear, Move}
+use Rattle.plan.specs.Plan.{next, closed, chosen, sequencesSpent, planTo, planWith, plan}
+use Rattle.reclaim.specs.Reclaim.{reclaiming}
 use Rattle.reclaim.specs.Promise.{reclaimTable}
 use Rattle.reclaim.proofs.Choice.{chosen-none, chosen-some, last-none, last-some}
 

@@ -8,7 +8,7 @@ use Rattle.lists.specs.Lists.{keep, some-of}
 use Rattle.lists.proofs.Member.{true≢false, none≢some, refuted}
 use Rattle.lists.proofs.Search.{keep-in, in-keep, some-is, some-in, best-in, best-some}
 use Rattle.table.specs.declared.Page.{Page}
-use Rattle.reclaim.specs.Reclaim.{candidate, next, noFewerPoints, chosen}
+use Rattle.plan.specs.Plan.{candidate, next, noFewerPoints, chosen}
 use Rattle.reclaim.specs.Promise.{noSectorFree}
 
 module _ (ps : List Page) where

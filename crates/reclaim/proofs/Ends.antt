@@ -12,9 +12,10 @@ use Rattle.table.specs.Table.{wholeSectors, pages, frees, itemsIn}
 use Rattle.answer.specs.declared.Answer.{Answer}
 use Rattle.answer.specs.Answer.{numberOf, refusal}
 use Rattle.answer.proofs.Ended.{neither-ended}
-use Rattle.reclaim.specs.declared.plan.Plan.{Plan}
-use Rattle.reclaim.specs.declared.plan.Plan.the-variants.{Refuse, Clear, Move}
-use Rattle.reclaim.specs.Reclaim.{plan, planSteps, reclaiming}
+use Rattle.plan.specs.declared.Plan.{Plan}
+use Rattle.plan.specs.declared.Plan.the-variants.{Refuse, Clear, Move}
+use Rattle.plan.specs.Plan.{plan}
+use Rattle.reclaim.specs.Reclaim.{planSteps, reclaiming}
 use Rattle.reclaim.specs.Promise.{mostSteps, ReclaimPromise}
 use Rattle.reclaim.proofs.Numbers.{number-7}
 

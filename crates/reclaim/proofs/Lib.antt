@@ -1,4 +1,3 @@
-pub mod Planned
 pub mod Choice
 pub mod Answered
 pub mod Promised

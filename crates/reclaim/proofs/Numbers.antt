@@ -14,7 +14,8 @@ use Rattle.answer.specs.Told.{before, conditionOf, NoneHolds}
 use Rattle.answer.proofs.Numbers.{absent, once, positive, given, given-last, not-given}
 use Rattle.lists.specs.Lists.{some-of, greatest}
 use Rattle.table.specs.Table.{wholeSectors, pages, frees, sequence, activePage}
-use Rattle.reclaim.specs.Reclaim.{candidate, sequencesSpent, reclaiming}
+use Rattle.plan.specs.Plan.{candidate, sequencesSpent}
+use Rattle.reclaim.specs.Reclaim.{reclaiming}
 use Rattle.reclaim.specs.Promise.{notReclaimable, copyNeeded, noSectorFree, reclaimTable, ReclaimPromise}
 use Rattle.reclaim.proofs.Choice.{none-free}
 

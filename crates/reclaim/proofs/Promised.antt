@@ -22,9 +22,10 @@ use Rattle.answer.proofs.Made.{untag-only, made-tag, told-is}
 use Rattle.answer.proofs.Values.{told-same, steps-listed, idle, no-steps, refusal-told, no-refusal, answer-told}
 use Rattle.lists.proofs.Member.{true≢false}
 use Rattle.table.specs.Table.{wholeSectors, pages, frees}
-use Rattle.reclaim.specs.declared.plan.Plan.{Plan}
-use Rattle.reclaim.specs.declared.plan.Plan.the-variants.{Refuse, Clear, Move}
-use Rattle.reclaim.specs.Reclaim.{plan, planSteps, reclaiming}
+use Rattle.plan.specs.declared.Plan.{Plan}
+use Rattle.plan.specs.declared.Plan.the-variants.{Refuse, Clear, Move}
+use Rattle.plan.specs.Plan.{plan}
+use Rattle.reclaim.specs.Reclaim.{planSteps, reclaiming}
 use Rattle.reclaim.specs.Promise.{reclaimTable, ReclaimPromise}
 use Rattle.reclaim.proofs.Answered.{Numbered, numbered}
 

@@ -1,3 +1,2 @@
 pub mod Reclaim
-pub mod Choosing
 pub mod Promise

@@ -15,7 +15,8 @@ use Rattle.answer.specs.Told.{Line, _when_, Told}
 use Rattle.lists.specs.Lists.{some-of}
 use Rattle.table.specs.declared.Page.{Page}
 use Rattle.table.specs.Table.{wholeSectors, pages, frees, activePage}
-use Rattle.reclaim.specs.Reclaim.{candidate, chosen, closed, sequencesSpent, reclaiming}
+use Rattle.plan.specs.Plan.{candidate, chosen, closed, sequencesSpent}
+use Rattle.reclaim.specs.Reclaim.{reclaiming}
 
 -- what holds of the page chosen
 abbrev pub ofChosen : (Page → Bool) → Option Page → Bool

@@ -1,6 +1,4 @@
 // Reclaim: the page that wins most by it is copied to a fresh sector without its Erased entries, and erased.
-mod plan;
-
 use answer::Answer;
 use answer::Stage;
 use crc::CrcTable;

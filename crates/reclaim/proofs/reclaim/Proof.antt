@@ -5,8 +5,9 @@ use mathlib.Core.Logic.{⊎-elim}
 use native.Mathlib.Omega.{arith}
 use Rattle.page.proofs.Tests.{not-true, not-false}
 use Rattle.table.specs.Table.{wholeSectors, pages, frees}
-use Rattle.reclaim.specs.Reclaim.{plan, planSteps}
-use Rattle.reclaim.proofs.Planned.{Named, named}
+use Rattle.plan.specs.Plan.{plan}
+use Rattle.reclaim.specs.Reclaim.{planSteps}
+use Rattle.plan.proofs.Planned.{Named, named}
 use Rattle.table.proofs.Whole.{whole-is}
 use Rattle.reclaim.proofs.Promised.{refused-whole, promised-refusal, promised}
 use borrow.Author.Needs.{needs}

@@ -1,11 +1,11 @@
--- `reclaim::points_of` meets its contract. Assumes nothing.
+-- `plan::points_of` meets its contract. Assumes nothing.
 use mathlib.Core.Path.{_≡_}
 use native.Mathlib.Omega.{arith}
 use borrow.Author.Tests.{eq-eqb, ne-eqb}
-use Rattle.reclaim.specs.Reclaim.{points}
+use Rattle.plan.specs.Plan.{points}
 use borrow.Author.Needs.{needs}
-use Rattle.reclaim.proofs.plan.points_of.Statement.{statement}
-use Rattle.reclaim.proofs.plan.points_of.Tie as tie
+use Rattle.plan.proofs.points_of.Statement.{statement}
+use Rattle.plan.proofs.points_of.Tie as tie
 
 returns : tie.Need-returns
 unfolding points

@@ -1,14 +1,14 @@
--- `reclaim::plan_of` meets its contract: each test that led to a return decides the definition's. Assumes nothing.
+-- `plan::plan_of` meets its contract: each test that led to a return decides the definition's. Assumes nothing.
 use mathlib.Core.Path.{_≡_, sym, _∙_}
 use mathlib.Core.Bool.{true, false}
 use borrow.Author.Tests.{eq-eqb, ne-eqb}
 use Rattle.page.proofs.Tests.{not-true, not-false}
 use Rattle.table.specs.Table.{listed}
 use Rattle.table.proofs.Seeking.{sought-found, sought-nothing}
-use Rattle.reclaim.specs.Reclaim.{closed, chosen, planWith, plan}
+use Rattle.plan.specs.Plan.{closed, chosen, planWith, plan}
 use borrow.Author.Needs.{needs}
-use Rattle.reclaim.proofs.plan.plan_of.Statement.{statement}
-use Rattle.reclaim.proofs.plan.plan_of.Tie as tie
+use Rattle.plan.proofs.plan_of.Statement.{statement}
+use Rattle.plan.proofs.plan_of.Tie as tie
 
 returns : tie.Need-returns
 unfolding plan planWith

@@ -1,12 +1,12 @@
--- `reclaim::better_of` meets its contract: each test that led to a return decides the definition's. Assumes nothing.
+-- `plan::better_of` meets its contract: each test that led to a return decides the definition's. Assumes nothing.
 use Prim.Native.Nat.{_≤_, _<_}
 use native.Mathlib.Omega.{arith}
 use borrow.Author.Tests.{lt-ltb, le-ltb, le-leb, lt-leb}
-use Rattle.reclaim.specs.Reclaim.{points}
+use Rattle.plan.specs.Plan.{points}
 use Rattle.table.specs.Sought.{betterAmong}
 use borrow.Author.Needs.{needs}
-use Rattle.reclaim.proofs.plan.better_of.Statement.{statement}
-use Rattle.reclaim.proofs.plan.better_of.Tie as tie
+use Rattle.plan.proofs.better_of.Statement.{statement}
+use Rattle.plan.proofs.better_of.Tie as tie
 
 returns : tie.Need-returns
 unfolding betterAmong

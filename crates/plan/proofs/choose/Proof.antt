@@ -1,4 +1,4 @@
--- `reclaim::choose` meets its contract: what is chosen so far is the best of the candidates from here on. Assumes nothing.
+-- `plan::choose` meets its contract: what is chosen so far is the best of the candidates from here on. Assumes nothing.
 use mathlib.Core.Path.{_≡_, sym, ap, _∙_}
 use mathlib.Core.List.{List}
 use Prim.Native.Nat.{ℕ, _+_, _-_, _≤_}
@@ -11,9 +11,9 @@ use Rattle.table.specs.Table.{listed}
 use Rattle.table.specs.Sought.{soughtOf, betterAmong}
 use Rattle.table.proofs.Listing.{element, listed-end}
 use Rattle.table.proofs.Seeking.{among-more}
-use Rattle.reclaim.specs.Reclaim.{candidate, next, chosen, noFewerPoints}
-use Rattle.reclaim.proofs.plan.choose.Statement.{statement}
-use Rattle.reclaim.proofs.plan.choose.Tie as tie
+use Rattle.plan.specs.Plan.{candidate, next, chosen, noFewerPoints}
+use Rattle.plan.proofs.choose.Statement.{statement}
+use Rattle.plan.proofs.choose.Tie as tie
 
 abbrev Inv-loop : tie.InvT-loop
 Inv-loop top t next best₀ i₀ best i = (i ≤ t .count) × (best ≡ soughtOf (bestOf (noFewerPoints next) (keep candidate (drop i (listed t)))))

@@ -14,9 +14,9 @@ use Rattle.lists.proofs.Search.{keep-in, best-in, last-in}
 use Rattle.table.specs.declared.Page.{Page}
 use Rattle.table.specs.Table.{sectorsOf, pages, frees, sequence, activePage}
 use Rattle.table.proofs.Pages.{pages-in, frees-in}
-use Rattle.reclaim.specs.declared.plan.Plan.{Plan}
-use Rattle.reclaim.specs.declared.plan.Plan.the-variants.{Refuse, Clear, Move}
-use Rattle.reclaim.specs.Reclaim.{candidate, next, closed, chosen, planTo, planWith, plan, noFewerPoints}
+use Rattle.plan.specs.declared.Plan.{Plan}
+use Rattle.plan.specs.declared.Plan.the-variants.{Refuse, Clear, Move}
+use Rattle.plan.specs.Plan.{candidate, next, closed, chosen, planTo, planWith, plan, noFewerPoints}
 
 -- the sectors that a plan names are in the image, and they are two
 abbrev pub Named : List ℕ → Plan → Type 0

@@ -10,8 +10,8 @@ ghost use mathlib.Core.List.{getLast?};
 ghost use Rattle.lists.specs.Lists.{greatest};
 ghost use Rattle.table.specs.Table.{sequence, listed, freed, Sized};
 ghost use Rattle.table.specs.Sought.{soughtOf, betterAmong};
-ghost use Rattle.reclaim.specs.Reclaim.{points, candidate, noFewerPoints, closed, chosen, planTo, plan};
-ghost use Rattle.reclaim.specs.Choosing.{targetOf};
+ghost use Rattle.plan.specs.Plan.{points, candidate, noFewerPoints, closed, chosen, planTo, plan};
+ghost use Rattle.plan.specs.Choosing.{targetOf};
 
 // A page's entries, as its record counts them.
 const ALL_ENTRIES: u8 = 126;

@@ -1,10 +1,10 @@
--- `reclaim::last_free` meets its contract. Assumes nothing.
+-- `plan::last_free` meets its contract. Assumes nothing.
 use mathlib.Core.Path.{sym, ap}
-use Rattle.reclaim.specs.Choosing.{targetOf}
+use Rattle.plan.specs.Choosing.{targetOf}
 use Rattle.table.proofs.Out.{front-last}
 use borrow.Author.Needs.{needs}
-use Rattle.reclaim.proofs.plan.last_free.Statement.{statement}
-use Rattle.reclaim.proofs.plan.last_free.Tie as tie
+use Rattle.plan.proofs.last_free.Statement.{statement}
+use Rattle.plan.proofs.last_free.Tie as tie
 
 returns-2 : tie.Need-returns-2
 returns-2 c = sym (ap targetOf (front-last (c .before .before .args .t1 .free) (c .before .before .args .t1 .«free_count») _ (c .before .before .pre .free) (c .before .if1 .left)))

@@ -1,4 +1,4 @@
--- `reclaim::plan_copy` meets its contract: each test that led to a return decides the definition's. Assumes nothing.
+-- `plan::plan_copy` meets its contract: each test that led to a return decides the definition's. Assumes nothing.
 use mathlib.Core.Path.{_≡_, refl, sym, _∙_}
 use mathlib.Core.Option.{Option, none, some}
 use mathlib.Core.List.{getLast?}
@@ -7,12 +7,12 @@ use native.Mathlib.Omega.{arith}
 use borrow.Author.Tests.{lt-ltb, le-ltb}
 use Rattle.lists.specs.Lists.{greatest}
 use Rattle.table.specs.Table.{sequence, listed, freed}
-use Rattle.reclaim.specs.declared.plan.Target.the-variants.{Sector, NoSector}
-use Rattle.reclaim.specs.Reclaim.{planTo}
-use Rattle.reclaim.specs.Choosing.{targetOf}
+use Rattle.plan.specs.declared.Target.the-variants.{Sector, NoSector}
+use Rattle.plan.specs.Plan.{planTo}
+use Rattle.plan.specs.Choosing.{targetOf}
 use borrow.Author.Needs.{needs}
-use Rattle.reclaim.proofs.plan.plan_copy.Statement.{statement}
-use Rattle.reclaim.proofs.plan.plan_copy.Tie as tie
+use Rattle.plan.proofs.plan_copy.Statement.{statement}
+use Rattle.plan.proofs.plan_copy.Tie as tie
 
 none-of : (o : Option ℕ) → targetOf o ≡ NoSector → o ≡ none
 none-of none e = refl
