@@ -19,7 +19,8 @@ use Rattle.lists.proofs.Sums.{sum-le, sum-plus}
 use Rattle.lists.proofs.Lengths.{length-keep, sum-sharper, sum-most, kept-once, length-flat, length-ascending}
 use Rattle.found.specs.Found.{Found, newer, isChunk, isIndex, isPart, versionOf, groupOf, indexOf, chunkOf, chunks, eraseAll}
 use Rattle.found.proofs.Lengths.{stepsFor, length-erased}
-use Rattle.blobs.specs.Blobs.{counting, sound, dropVersion, judgeWith, judge, versionIn, bothSound, dropCounting, olderWith, older, blobSteps}
+use Rattle.versions.specs.Versions.{counting, sound, dropVersion, judgeWith, judge, versionIn, bothSound, dropCounting, olderWith, older}
+use Rattle.blobs.specs.Blobs.{blobSteps}
 
 -- a version tells its group, over a base that nothing computes
 group-back : (b g st : ℕ) → 0 < b → st ≤ 128 → ((g / b * 256 + st) * b + g % b) / b / 256 * b + ((g / b * 256 + st) * b + g % b) % b ≡ g

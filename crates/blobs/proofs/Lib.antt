@@ -1,6 +1,3 @@
-pub mod Newer
-pub mod Totals
-pub mod Older
 pub mod Parts
 pub mod Near
 pub mod Ordered

@@ -21,7 +21,7 @@ use Rattle.found.specs.Found.{Found, newer, isChunk, isIndex, isPart, startIn, 
 use Rattle.page.proofs.Tests.{either-second}
 use Rattle.found.proofs.Ranking.{start-le}
 use Rattle.lists.proofs.Keeping.{keep-within, sum-within}
-use Rattle.blobs.specs.Blobs.{indices, counting, sizeIn, sound, dropVersion, judgeWith, judge, versionIn, soundOne, bothSound, dropCounting, olderWith, older}
+use Rattle.versions.specs.Versions.{indices, counting, sizeIn, sound, dropVersion, judgeWith, judge, versionIn, soundOne, bothSound, dropCounting, olderWith, older}
 
 or-left : (a b : Bool) → a ≡ true → (a || b) ≡ true
 or-left a b e = rw e

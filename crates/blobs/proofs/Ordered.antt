@@ -25,7 +25,7 @@ use Rattle.lists.specs.Runs.{runs}
 use Rattle.lists.proofs.Climbing.{Climbs, climb-above, ascending-climbs, climb-more, ascending-more}
 use Rattle.lists.proofs.Running.{only, Rises, sort-rises, only-sorted, runs-rising, runs-sorted}
 use Rattle.lists.proofs.Keeping.{keep-within, flatMap-map}
-use Rattle.blobs.specs.Blobs.{versionIn, judge, older}
+use Rattle.versions.specs.Versions.{versionIn, judge, older}
 use Rattle.blobs.specs.Runs.{headGroup, spaceBy, startSteps, spaceSteps, olderSteps}
 use Rattle.blobs.proofs.Near.{Near, version-near, judge-near, older-near, judge-none, older-none}
 

@@ -9,7 +9,8 @@ use Rattle.lists.specs.Lists.{some-of, ascendFrom, ascending}
 use Rattle.lists.proofs.Member.{_∈_, refuted, true≢false}
 use Rattle.lists.proofs.Search.{keep-none, some-is}
 use Rattle.found.specs.Found.{Found, isChunk, isIndex, isPart, versionOf, groupOf}
-use Rattle.blobs.specs.Blobs.{judge, older, blobSteps}
+use Rattle.versions.specs.Versions.{judge, older}
+use Rattle.blobs.specs.Blobs.{blobSteps}
 
 module _ (fs : List Found) (none-here : some-of (λ (x : Found). isPart (x .raw)) fs ≡ false) where
   no-part : (x : Found) → x ∈ fs → isPart (x .raw) ≡ false

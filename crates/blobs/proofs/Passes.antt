@@ -15,7 +15,7 @@ use Rattle.sort.specs.Rank.{groupBy}
 use Rattle.sort.specs.Runs.{RunEnds}
 use Rattle.lists.specs.Runs.{runs}
 use Rattle.lists.proofs.Parts.{drop-take}
-use Rattle.blobs.specs.Search.{Gathered}
+use Rattle.versions.specs.Search.{Gathered}
 use Rattle.blobs.specs.Runs.{headGroup}
 
 module _ (h : List Found → List Step) (f : Found → ℕ) (L l places : List ℕ) (like : Alike L l) (all : Gathered L places) where

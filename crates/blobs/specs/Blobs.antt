@@ -1,70 +1,9 @@
 -- Rule. Document 01, Recovery: "3. Blobs." It judges by the items fs found as it begins. Assumes nothing.
-use mathlib.Core.Bool.{Bool, false, cond, _&&_, _||_}
-use mathlib.Core.Option.{Option, none, some}
-use mathlib.Core.List.{List, [], _++_, map, flatMap}
-use Prim.Native.Nat.{ℕ, _+_, _*_, _/_, _%_, _^_}
-use lib.Dec.{eqb}
-use Rattle.entry.specs.States.{one}
-use Rattle.entry.specs.Fields.{chunkSize, indexSize, indexCount}
+use mathlib.Core.List.{List, _++_, map, flatMap}
 use Rattle.flash.specs.Step.{Step}
-use Rattle.item.specs.Erase.{erasing}
-use Rattle.lists.specs.Lists.{keep, sumOf, best, ascending}
-use Rattle.found.specs.Found.{Found, newer, isIndex, isPart, versionOf, groupOf, indexOf, chunkOf, chunks, eraseAll}
-
--- "Of several indices of a version the newest counts."
-abbrev pub indices : ℕ → List Found → List Found
-indices v fs = keep (λ (x : Found). indexOf v (x .raw)) fs
-
-unfoldable pub counting : ℕ → List Found → Option Found
-counting v fs = best newer (indices v fs)
-
--- a version is sound where neither is "Chunk count or summed chunk sizes unlike the index"
-unfoldable pub sizeIn : ℕ → List ℕ → ℕ
-sizeIn v r = cond (chunkOf v r) (chunkSize r) 0
-
-unfoldable pub sound : ℕ → List Found → Found → Bool
-sound v fs i =
-    eqb (indexCount (i .raw)) (sumOf (λ (x : Found). one (chunkOf v (x .raw))) fs)
-    && eqb (indexSize (i .raw)) (sumOf (λ (x : Found). sizeIn v (x .raw)) fs)
-
--- "the index entry (one entry) is erased, then its chunks"
-unfoldable pub dropVersion : ℕ → Found → List Found → List Step
-dropVersion v i fs = erasing (i .sector) (i .entry) 1 ++ eraseAll (chunks v fs)
-
--- "No index: its chunks are erased. Chunk count or summed chunk sizes unlike the index: the index entry .., then its chunks."
-unfoldable pub judgeWith : ℕ → List Found → Option Found → List Step
-judgeWith v fs none = eraseAll (chunks v fs)
-judgeWith v fs (some i) = cond (sound v fs i) [] (dropVersion v i fs)
-
-unfoldable pub judge : List Found → ℕ → List Step
-judge fs v = judgeWith v fs (counting v fs)
-
--- "Of two sound versions of a key the older goes the same way": the version of group g with start 0, and with start 0x80
-abbrev pub versionIn : ℕ → ℕ → ℕ
-versionIn g start = (g / 2 ^ 128 * 256 + start) * 2 ^ 128 + g % 2 ^ 128
-
-unfoldable pub soundOne : ℕ → List Found → Option Found → Bool
-soundOne v fs none = false
-soundOne v fs (some i) = sound v fs i
-
-unfoldable pub bothSound : List Found → ℕ → ℕ → Bool
-bothSound fs v w = soundOne v fs (counting v fs) && soundOne w fs (counting w fs)
-
-unfoldable pub dropCounting : ℕ → List Found → Option Found → List Step
-dropCounting v fs none = []
-dropCounting v fs (some i) = dropVersion v i fs
-
--- k is the newest index of the versions v and w: the other one is the older
-unfoldable pub olderWith : ℕ → ℕ → List Found → Option Found → List Step
-olderWith v w fs none = []
-olderWith v w fs (some k) = cond (eqb (versionOf (k .raw)) v) (dropCounting w fs (counting w fs)) (dropCounting v fs (counting v fs))
-
-unfoldable pub older : List Found → ℕ → List Step
-older fs g =
-    cond (bothSound fs (versionIn g 0) (versionIn g 0x80))
-    (olderWith (versionIn g 0) (versionIn g 0x80) fs
-    (best newer (keep (λ (x : Found). indexOf (versionIn g 0) (x .raw) || indexOf (versionIn g 0x80) (x .raw)) fs)))
-    []
+use Rattle.lists.specs.Lists.{keep, ascending}
+use Rattle.found.specs.Found.{Found, isIndex, isPart, versionOf, groupOf}
+use Rattle.versions.specs.Versions.{judge, older}
 
 -- "Versions are taken in ascending (namespace, start, key), the older-of-two after all others in ascending (namespace, key)"
 unfoldable pub blobSteps : List Found → List Step

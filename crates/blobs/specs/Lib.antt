@@ -1,3 +1,2 @@
 pub mod Blobs
-pub mod Search
 pub mod Runs

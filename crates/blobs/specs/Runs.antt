@@ -6,7 +6,7 @@ use Rattle.flash.specs.Step.{Step}
 use Rattle.found.specs.Found.{Found}
 use Rattle.sort.specs.Rank.{groupBy}
 use Rattle.lists.specs.Runs.{runs}
-use Rattle.blobs.specs.Blobs.{versionIn, judge, older}
+use Rattle.versions.specs.Versions.{versionIn, judge, older}
 
 -- the group of a run, and the namespace of an item
 abbrev pub headGroup : List Found → ℕ

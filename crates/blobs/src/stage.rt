@@ -1,12 +1,6 @@
 // The stage: versions in ascending order, then the older of two, group by group.
-use super::chunks::drop_version;
 use super::front::keep_parts;
-use super::versions::Newest;
-use super::versions::is_sound;
-use super::versions::newest_of;
-use super::versions::sound_index;
 use flash::Ran;
-use found::Rank;
 use sort::Order;
 ghost use mathlib.Core.Path.{_≡_};
 ghost use mathlib.Core.List.{_++_, flatMap};
@@ -17,62 +11,12 @@ ghost use Rattle.lists.specs.Lists.{some-of};
 ghost use Rattle.found.specs.Found.{Found, isPart};
 ghost use Rattle.found.specs.Places.{itemsAt, Placed, Alike};
 ghost use Rattle.lists.specs.Each.{Each};
-ghost use Rattle.found.specs.Ranks.{rankNumber};
 ghost use Rattle.sort.specs.Rank.{groupBy};
 ghost use Rattle.sort.specs.Runs.{RunEnds};
 ghost use Rattle.lists.specs.Runs.{runs};
-ghost use Rattle.blobs.specs.Blobs.{versionIn, judge, older, blobSteps};
-ghost use Rattle.blobs.specs.Search.{Gathered};
+ghost use Rattle.blobs.specs.Blobs.{blobSteps};
+ghost use Rattle.versions.specs.Search.{Gathered};
 ghost use Rattle.blobs.specs.Runs.{spaceBy, startSteps, spaceSteps, olderSteps};
-
-// A version that has no index, or not the chunks that its index tells, goes.
-fn judge_version(image: &mut [u8], places: &[u16], v: Rank, allowed: u64) -> Ran
-    requires { ⌜ Gathered (now image) (now places) ⌝ }
-    ensures { λ r. ⌜ Did (judge (itemsAt (now (image .entry)) (now (places .entry))) (rankNumber v)) allowed (now (image .entry)) (now (image .exit)) r × Alike (now (image .entry)) (now (image .exit)) ⌝ }
-{
-    let Newest::At(index) = newest_of(image, places, v, v) else {
-        return found::erase_chunks(image, places, v, allowed);
-    };
-    if is_sound(image, places, v, index) {
-        return Ran::Done(allowed);
-    }
-    drop_version(image, places, v, index, allowed)
-}
-
-// The version of a group with the given start.
-fn version_in(g: Rank, start: u32) -> Rank
-    requires { ⌜ (g .high < 256) × (start < 256) ⌝ }
-    ensures { λ r. ⌜ rankNumber r ≡ versionIn (rankNumber g) start ⌝ }
-{
-    let key = g.key;
-    Rank {
-        high: g.high * 256 + start,
-        key,
-    }
-}
-
-// Of two sound versions the older goes.
-fn drop_older(image: &mut [u8], places: &[u16], g: Rank, allowed: u64) -> Ran
-    requires { ⌜ Gathered (now image) (now places) × (g .high < 256) ⌝ }
-    ensures { λ r. ⌜ Did (older (itemsAt (now (image .entry)) (now (places .entry))) (rankNumber g)) allowed (now (image .entry)) (now (image .exit)) r × Alike (now (image .entry)) (now (image .exit)) ⌝ }
-{
-    let v = version_in(g, 0);
-    let w = version_in(g, 0x80);
-    let Newest::At(first) = sound_index(image, places, v) else {
-        return Ran::Done(allowed);
-    };
-    let Newest::At(second) = sound_index(image, places, w) else {
-        return Ran::Done(allowed);
-    };
-    // two stand, so one is the newest: the branch spares a proof of that
-    let Newest::At(newest) = newest_of(image, places, v, w) else {
-        return Ran::Done(allowed);
-    };
-    if found::rank_same(found::version_at(image, newest), v) {
-        return drop_version(image, places, w, second, allowed);
-    }
-    drop_version(image, places, v, first, allowed)
-}
 
 // The versions of one start: the places are sorted by their groups.
 fn judge_start(image: &mut [u8], places: &[u16], start: u32, allowed: u64) -> Ran
@@ -84,7 +28,7 @@ fn judge_start(image: &mut [u8], places: &[u16], start: u32, allowed: u64) -> Ra
     while a < places.len() {
         let e = sort::run_end(image, places, a);
         let g = found::group_at(image, found::place_at(places, a));
-        let r = judge_version(image, &places[a..e], version_in(g, start), left);
+        let r = versions::judge_version(image, &places[a..e], versions::version_in(g, start), left);
         let Ran::Done(rest) = r else {
             return Ran::Stopped;
         };
@@ -151,7 +95,7 @@ fn drop_all_older(image: &mut [u8], places: &[u16], allowed: u64) -> Ran
     while a < places.len() {
         let e = sort::run_end(image, places, a);
         let g = found::group_at(image, found::place_at(places, a));
-        let r = drop_older(image, &places[a..e], g, left);
+        let r = versions::drop_older(image, &places[a..e], g, left);
         let Ran::Done(rest) = r else {
             return Ran::Stopped;
         };

@@ -20,7 +20,8 @@ use Rattle.lists.proofs.Sorting.{dropLast-none, length-sort}
 use Rattle.lists.proofs.Ascending.{in-ascending}
 use Rattle.lists.proofs.Member.{_∈_, nil-left, nil≢, none≢some}
 use Rattle.found.specs.Found.{Found, chunkOf, chunks, groupOf, indexOf, isChunk, isIndex, isPart, newer, versionOf}
-use Rattle.blobs.specs.Blobs.{blobSteps, counting, dropVersion, indices, judge, judgeWith, sizeIn, sound, versionIn}
+use Rattle.versions.specs.Versions.{counting, dropVersion, indices, judge, judgeWith, sizeIn, sound, versionIn}
+use Rattle.blobs.specs.Blobs.{blobSteps}
 use Rattle.duplicates.specs.Duplicates.{duplicateSteps, groups, members, olderThan, onceEach, outdated, ranked, withChunks}
 use Rattle.quick.specs.Calm.{Calm, inGroup, partOf, tot}
 use Rattle.quick.proofs.Idle.{erase-some, eraseAll-none}

@@ -18,7 +18,8 @@ use Rattle.lists.proofs.Search.{in-keep, keep-in}
 use Rattle.lists.proofs.Sums.{sum-append, sum-ext, sum-keep, sum-kept-one, sum-plus}
 use Rattle.lists.proofs.Maps.{flatMap-append, flatMap-ext, flatMap-none}
 use Rattle.found.specs.Found.{Found, chunkOf, chunks, eraseAll, groupOf, indexOf, isChunk, isIndex, isPart, newer, versionOf}
-use Rattle.blobs.specs.Blobs.{blobSteps, counting, dropVersion, indices, judge, judgeWith, older, sizeIn, sound}
+use Rattle.versions.specs.Versions.{counting, dropVersion, indices, judge, judgeWith, older, sizeIn, sound}
+use Rattle.blobs.specs.Blobs.{blobSteps}
 use Rattle.quick.specs.Calm.{inGroup, partOf, tot}
 use Rattle.quick.proofs.Idle.{older-idle}
 use Rattle.quick.proofs.Counts.{length-keep}

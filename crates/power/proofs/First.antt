@@ -16,7 +16,7 @@ use Rattle.lists.proofs.Member.{_∈_, in-append, in-left}
 use Rattle.lists.proofs.Search.{keep-in}
 use Rattle.lists.proofs.Sums.{sum-append}
 use Rattle.found.specs.Found.{Found, chunks, indexOf, isPart, versionOf}
-use Rattle.blobs.specs.Blobs.{indices}
+use Rattle.versions.specs.Versions.{indices}
 use Rattle.quick.specs.Calm.{tot}
 use Rattle.quick.proofs.Counts.{length-keep, one-true}
 use Rattle.power.proofs.Doomed.{goes, goes-in, soundIn}

@@ -17,7 +17,7 @@ use Rattle.lists.proofs.Sums.{sum-ext, sum-keep, sum-keep-le, sum-plus, sum-zer
 use Rattle.lists.proofs.Maps.{flatMap-in, in-map, sum-flatMap}
 use Rattle.lists.proofs.Ascending.{ascend-from, in-ascending}
 use Rattle.found.specs.Found.{Found, chunks, isPart, versionOf}
-use Rattle.blobs.specs.Blobs.{indices}
+use Rattle.versions.specs.Versions.{indices}
 use Rattle.duplicates.proofs.Once.{Once, once-fewer}
 use Rattle.quick.specs.Calm.{partOf}
 use Rattle.power.proofs.Doomed.{doomed, goes, goes-in, goes-sum, soundIn, versions}

@@ -19,7 +19,8 @@ use Rattle.lists.proofs.Sorting.{sort-in}
 use Rattle.lists.proofs.Maps.{flatMap-in}
 use Rattle.lists.proofs.Member.{_∈_, in-left, in-right}
 use Rattle.found.specs.Found.{Found, chunkOf, chunks, eraseAll, indexOf, newer, versionOf}
-use Rattle.blobs.specs.Blobs.{blobSteps, bothSound, counting, dropCounting, dropVersion, indices, judge, judgeWith, older, olderWith, sound, versionIn}
+use Rattle.versions.specs.Versions.{bothSound, counting, dropCounting, dropVersion, indices, judge, judgeWith, older, olderWith, sound, versionIn}
+use Rattle.blobs.specs.Blobs.{blobSteps}
 use Rattle.duplicates.specs.Duplicates.{duplicateSteps, groups, members, olderThan, outdated, withChunks}
 use Rattle.duplicates.proofs.Once.{once-in}
 use Rattle.duplicates.proofs.Grouping.{with-cases}

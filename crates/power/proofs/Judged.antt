@@ -15,7 +15,8 @@ use Rattle.lists.proofs.Member.{_∈_, refuted}
 use Rattle.lists.proofs.Sums.{sum-ext, sum-ge, sum-plus}
 use Rattle.table.specs.declared.Page.{Page}
 use Rattle.found.specs.Found.{Found, eraseAll, found, indexOf, isIndex, isPart, versionOf}
-use Rattle.blobs.specs.Blobs.{blobSteps, sound}
+use Rattle.versions.specs.Versions.{sound}
+use Rattle.blobs.specs.Blobs.{blobSteps}
 use Rattle.duplicates.proofs.Once.{Once}
 use Rattle.quick.specs.Calm.{inGroup, partOf, tot}
 use Rattle.quick.proofs.Counts.{one-true}

@@ -15,7 +15,8 @@ use Rattle.lists.proofs.Member.{_∈_, in-append}
 use Rattle.table.specs.declared.Page.{Page}
 use Rattle.table.specs.Table.{activePage}
 use Rattle.found.specs.Found.{Found, chunks, eraseAll, versionOf}
-use Rattle.blobs.specs.Blobs.{blobSteps, bothSound, counting, dropCounting, dropVersion, judge, judgeWith, older, olderWith, sound, versionIn}
+use Rattle.versions.specs.Versions.{bothSound, counting, dropCounting, dropVersion, judge, judgeWith, older, olderWith, sound, versionIn}
+use Rattle.blobs.specs.Blobs.{blobSteps}
 use Rattle.duplicates.specs.Duplicates.{duplicateStage, duplicateSteps, lastMarks}
 use Rattle.quick.proofs.Idle.{newestOf}
 use Rattle.page.proofs.Read.{noRoom}

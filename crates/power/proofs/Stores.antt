@@ -15,7 +15,7 @@ use Rattle.lists.proofs.Search.{every-is}
 use Rattle.lists.proofs.Sums.{sum-ge}
 use Rattle.table.specs.Table.{pages}
 use Rattle.found.specs.Found.{Found, found, indexOf, isIndex, versionOf}
-use Rattle.blobs.specs.Blobs.{sound}
+use Rattle.versions.specs.Versions.{sound}
 use Rattle.quick.specs.Calm.{Calm}
 use Rattle.quick.proofs.Counts.{one-true}
 use Rattle.answer.specs.Staged.{untag}

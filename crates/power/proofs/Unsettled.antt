@@ -13,7 +13,7 @@ use Rattle.lists.proofs.Search.{every-of}
 use Rattle.lists.proofs.Sums.{sum-zero}
 use Rattle.table.specs.Table.{pages}
 use Rattle.found.specs.Found.{Found, found, isIndex, versionOf}
-use Rattle.blobs.specs.Blobs.{sound}
+use Rattle.versions.specs.Versions.{sound}
 use Rattle.quick.specs.Calm.{inGroup, partOf, tot}
 use Rattle.power.specs.Demand3.{Premises, total}
 use Rattle.power.specs.General.{Unsettled}

@@ -13,7 +13,7 @@ use Rattle.entry.specs.Fields.{spanOf}
 use Rattle.lists.specs.Lists.{every}
 use Rattle.table.specs.Table.{pages, frees}
 use Rattle.found.specs.Found.{Found, found, isIndex, versionOf, groupOf}
-use Rattle.blobs.specs.Blobs.{sound}
+use Rattle.versions.specs.Versions.{sound}
 use Rattle.duplicates.specs.Duplicates.{ranked}
 use Rattle.stages.specs.Stages.{accepted}
 use Rattle.reclaim.specs.Reclaim.{reclaiming}

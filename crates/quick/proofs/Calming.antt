@@ -21,7 +21,7 @@ use Rattle.lists.proofs.Range.{sumTo-ext}
 use Rattle.table.proofs.Places.{one-cond}
 use Rattle.found.specs.Found.{Found, chunkOf, groupOf, indexOf, isChunk, isIndex, isPart, versionOf}
 use Rattle.found.specs.Places.{itemAt, itemsAt}
-use Rattle.blobs.specs.Blobs.{sizeIn, versionIn}
+use Rattle.versions.specs.Versions.{sizeIn, versionIn}
 use Rattle.duplicates.specs.Duplicates.{ranked}
 use Rattle.quick.specs.Calm.{Calm, inGroup, partOf, tot}
 use Rattle.quick.specs.Names.{chunkName, chunkNumber, judged, nameOf}

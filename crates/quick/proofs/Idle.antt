@@ -20,7 +20,8 @@ use Rattle.lists.proofs.Sorting.{dropLast-short, length-sort}
 use Rattle.lists.proofs.Ascending.{ascending-in}
 use Rattle.lists.proofs.Member.{_∈_, nil-left, nil≢, true≢false}
 use Rattle.found.specs.Found.{Found, eraseAll, groupOf, indexOf, isIndex, isPart, newer, versionOf}
-use Rattle.blobs.specs.Blobs.{blobSteps, bothSound, counting, indices, judge, judgeWith, older, olderWith, sound, soundOne, versionIn}
+use Rattle.versions.specs.Versions.{bothSound, counting, indices, judge, judgeWith, older, olderWith, sound, soundOne, versionIn}
+use Rattle.blobs.specs.Blobs.{blobSteps}
 use Rattle.duplicates.specs.Duplicates.{duplicateSteps, groups, members, olderThan, onceEach, outdated}
 use Rattle.quick.specs.Calm.{Calm, inGroup, partOf, tot}
 use Rattle.quick.proofs.Counts.{length-keep, length-one, one-true}

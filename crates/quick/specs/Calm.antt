@@ -8,7 +8,7 @@ use Rattle.entry.specs.States.{one}
 use Rattle.entry.specs.Fields.{indexCount, indexSize}
 use Rattle.lists.specs.Lists.{sumOf}
 use Rattle.found.specs.Found.{Found, chunkOf, groupOf, indexOf, isPart, versionOf}
-use Rattle.blobs.specs.Blobs.{sizeIn, versionIn}
+use Rattle.versions.specs.Versions.{sizeIn, versionIn}
 use Rattle.duplicates.specs.Duplicates.{ranked}
 
 -- f summed over the bytes of the items found

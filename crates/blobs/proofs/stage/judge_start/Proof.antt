@@ -13,7 +13,7 @@ use Rattle.found.proofs.Alike.{alike-refl, alike-trans}
 use Rattle.lists.proofs.Each.{each-at}
 use Rattle.sort.specs.Rank.{groupBy}
 use Rattle.lists.specs.Runs.{runs}
-use Rattle.blobs.specs.Blobs.{versionIn, judge}
+use Rattle.versions.specs.Versions.{versionIn, judge}
 use Rattle.blobs.specs.Runs.{startSteps}
 use Rattle.blobs.proofs.Passes.{gathered-still, gathered-run, items-run, pass-left, first-group, pass-end}
 use Rattle.blobs.proofs.stage.judge_start.Statement.{statement}

@@ -1,0 +1,3 @@
+pub mod Newer
+pub mod Totals
+pub mod Older
