@@ -9,7 +9,7 @@ ghost use lib.ListN.{length, take};
 ghost use Rattle.flash.specs.Did.{Did};
 ghost use Rattle.lists.specs.Lists.{some-of};
 ghost use Rattle.found.specs.Found.{Found, isPart};
-ghost use Rattle.found.specs.Places.{itemsAt, Placed, Alike};
+ghost use Rattle.found.specs.Places.{itemsAt, Placed, Alike, mostItems, sortRoom};
 ghost use Rattle.lists.specs.Each.{Each};
 ghost use Rattle.sort.specs.Rank.{groupBy};
 ghost use Rattle.sort.specs.Runs.{RunEnds};
@@ -133,7 +133,7 @@ pub fn any_part(image: &[u8], places: &[u16]) -> bool
 
 // The stage, on the items at the first `n` places in `room`, which is lost: the parts of blobs are put in front, and sorted by their groups.
 pub fn make_blobs(image: &mut [u8], room: &mut [u16], n: usize, allowed: u64) -> Ran
-    requires { ⌜ Each (Placed (now image)) (take n (now room)) × (n ≤ 2016) × (4032 ≤ length (now room)) ⌝ }
+    requires { ⌜ Each (Placed (now image)) (take n (now room)) × (n ≤ mostItems) × (sortRoom ≤ length (now room)) ⌝ }
     ensures { λ r. ⌜ Did (blobSteps (itemsAt (now (image .entry)) (take n (now (room .entry))))) allowed (now (image .entry)) (now (image .exit)) r × Alike (now (image .entry)) (now (image .exit)) ⌝ }
 {
     let k = keep_parts(image, room, n);

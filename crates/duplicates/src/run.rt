@@ -8,7 +8,7 @@ ghost use lib.ListN.{length, take, drop, getD};
 ghost use Rattle.flash.specs.Did.{Did};
 ghost use Rattle.lists.specs.Lists.{keep};
 ghost use Rattle.found.specs.Found.{Found, isChunk};
-ghost use Rattle.found.specs.Places.{itemAt, itemsAt, Placed, Alike};
+ghost use Rattle.found.specs.Places.{itemAt, itemsAt, Placed, Alike, mostItems};
 ghost use Rattle.lists.specs.Each.{Each};
 ghost use Rattle.sort.specs.Rank.{groupBy};
 ghost use Rattle.duplicates.specs.Runs.{runSteps, agedSteps};
@@ -39,10 +39,10 @@ fn take_aged(image: &mut [u8], places: &[u16], allowed: u64) -> Ran
     erase_all_old(image, places, &places[k..], allowed)
 }
 
-// What goes of the run that the first `m` places are. What stands from 2016 on is lost.
+// What goes of the run that the first `m` places are. What stands from `MOST_ITEMS` on is lost.
 pub fn take_run(image: &mut [u8], s: &mut [u16], m: usize, allowed: u64) -> Ran
-    requires { ⌜ Each (Placed (now image)) (take m (now s)) × (1 ≤ m) × (m ≤ 2016) × (2016 + m ≤ length (now s)) × Each (λ (x : Found). groupBy x ≡ groupBy (itemAt (now image) (getD (now s) 0 0))) (itemsAt (now image) (take m (now s))) ⌝ }
-    ensures { λ r. ⌜ Did (runSteps (itemsAt (now (image .entry)) (take m (now (s .entry))))) allowed (now (image .entry)) (now (image .exit)) r × Alike (now (image .entry)) (now (image .exit)) × (drop m (take 2016 (now (s .exit))) ≡ drop m (take 2016 (now (s .entry)))) ⌝ }
+    requires { ⌜ Each (Placed (now image)) (take m (now s)) × (1 ≤ m) × (m ≤ mostItems) × (mostItems + m ≤ length (now s)) × Each (λ (x : Found). groupBy x ≡ groupBy (itemAt (now image) (getD (now s) 0 0))) (itemsAt (now image) (take m (now s))) ⌝ }
+    ensures { λ r. ⌜ Did (runSteps (itemsAt (now (image .entry)) (take m (now (s .entry))))) allowed (now (image .entry)) (now (image .exit)) r × Alike (now (image .entry)) (now (image .exit)) × (drop m (take mostItems (now (s .exit))) ≡ drop m (take mostItems (now (s .entry)))) ⌝ }
 {
     if m < 2 {
         return Ran::Done(allowed);

@@ -14,7 +14,7 @@ ghost use Rattle.flash.specs.Did.{Did};
 ghost use Rattle.table.specs.Table.{sectorsOf, listed, freed, Sized};
 ghost use Rattle.table.specs.PagesPlaced.{PagesPlaced};
 ghost use Rattle.found.specs.Found.{found};
-ghost use Rattle.found.specs.Places.{placeOf, itemsAt, Lies, Placed, Alike};
+ghost use Rattle.found.specs.Places.{placeOf, itemsAt, Lies, Placed, Alike, mostItems, sortRoom};
 ghost use Rattle.lists.specs.Each.{Each};
 ghost use Rattle.sort.specs.Rank.{groupBy};
 ghost use Rattle.lists.specs.Runs.{runs};
@@ -24,7 +24,7 @@ ghost use Rattle.duplicates.specs.Runs.{runSteps};
 
 // The groups one after the other: the first `n` places are sorted by them.
 fn take_runs(image: &mut [u8], room: &mut [u16], n: usize, allowed: u64) -> Ran
-    requires { ⌜ Each (Placed (now image)) (take n (now room)) × (n ≤ 2016) × (4032 ≤ length (now room)) ⌝ }
+    requires { ⌜ Each (Placed (now image)) (take n (now room)) × (n ≤ mostItems) × (sortRoom ≤ length (now room)) ⌝ }
     ensures { λ r. ⌜ Did (flatMap runSteps (runs groupBy (itemsAt (now (image .entry)) (take n (now (room .entry)))))) allowed (now (image .entry)) (now (image .exit)) r × Alike (now (image .entry)) (now (image .exit)) ⌝ }
 {
     let mut left = allowed;
@@ -41,9 +41,9 @@ fn take_runs(image: &mut [u8], room: &mut [u16], n: usize, allowed: u64) -> Ran
     Ran::Done(left)
 }
 
-// Each group, ascending: the places are sorted by their groups, from 2016 on the room is free for that.
+// Each group, ascending: the places are sorted by their groups, from `MOST_ITEMS` on the room is free for that.
 fn make_duplicates(image: &mut [u8], room: &mut [u16], n: usize, allowed: u64) -> Ran
-    requires { ⌜ Each (Placed (now image)) (take n (now room)) × (n ≤ 2016) × (4032 ≤ length (now room)) ⌝ }
+    requires { ⌜ Each (Placed (now image)) (take n (now room)) × (n ≤ mostItems) × (sortRoom ≤ length (now room)) ⌝ }
     ensures { λ r. ⌜ Did (flatMap (groupSteps (itemsAt (now (image .entry)) (take n (now (room .entry))))) (groups (itemsAt (now (image .entry)) (take n (now (room .entry)))))) allowed (now (image .entry)) (now (image .exit)) r × Alike (now (image .entry)) (now (image .exit)) ⌝ }
 {
     sort::sort(image, room, n, Order::Group);
@@ -99,7 +99,7 @@ pub fn duplicate_stage(
     n: usize,
     allowed: u64,
 ) -> Ran
-    requires { ⌜ Sized table × PagesPlaced (sectorsOf (now image)) (listed table) (freed table) × Each (Lies (now image)) (listed table) × (take n (now room) ≡ map placeOf (found (listed table) (now image))) × (n ≤ 2016) × (4032 ≤ length (now room)) ⌝ }
+    requires { ⌜ Sized table × PagesPlaced (sectorsOf (now image)) (listed table) (freed table) × Each (Lies (now image)) (listed table) × (take n (now room) ≡ map placeOf (found (listed table) (now image))) × (n ≤ mostItems) × (sortRoom ≤ length (now room)) ⌝ }
     ensures { λ r. ⌜ Did (duplicateStage (listed table) (now (image .entry))) allowed (now (image .entry)) (now (image .exit)) r ⌝ }
 {
     let r = make_duplicates(image, room, n, allowed);

@@ -16,6 +16,13 @@ use Rattle.found.specs.Found.{Found}
 abbrev pub placeOf : Found → ℕ
 placeOf x = x .sector * 128 + 2 + x .entry
 
+-- as many items as an image can have: 126 on each of sixteen pages; and room for their places and for a sort of these
+abbrev pub mostItems : ℕ
+mostItems = 2016
+
+abbrev pub sortRoom : ℕ
+sortRoom = 4032
+
 -- the item at a place
 unfoldable pub itemAt : List ℕ → ℕ → Found
 itemAt l p =

@@ -11,13 +11,13 @@ ghost use lib.ListN.{length, take, getD};
 ghost use Rattle.crc.specs.Table.{crcTable};
 ghost use Rattle.table.specs.Table.{listed, Sized};
 ghost use Rattle.found.specs.Found.{found};
-ghost use Rattle.found.specs.Places.{placeOf, Lies};
+ghost use Rattle.found.specs.Places.{placeOf, Lies, mostItems};
 ghost use Rattle.lists.specs.Each.{Each};
 
 // The places of all items found, in list order, then entry order, into `out`. Answers how many.
 pub fn gather(t: &CrcTable, image: &[u8], table: Table, out: &mut [u16]) -> usize
-    requires { ⌜ (now t ≡ crcTable) × Sized table × Each (Lies (now image)) (listed table) × (2016 ≤ length (now out)) ⌝ }
-    ensures { λ r. ⌜ (take r (now (out .exit)) ≡ map placeOf (found (listed table) (now (image .entry)))) × (r ≤ 2016) ⌝ }
+    requires { ⌜ (now t ≡ crcTable) × Sized table × Each (Lies (now image)) (listed table) × (mostItems ≤ length (now out)) ⌝ }
+    ensures { λ r. ⌜ (take r (now (out .exit)) ≡ map placeOf (found (listed table) (now (image .entry)))) × (r ≤ mostItems) ⌝ }
 {
     let count = table.count;
     let mut k: usize = 0;

@@ -17,7 +17,7 @@ ghost use Rattle.answer.specs.Went.{Made};
 ghost use Rattle.table.specs.Table.{sectorsOf, pages, frees, sequence, listed, freed, Sized, Holds};
 ghost use Rattle.table.specs.PagesPlaced.{PagesPlaced};
 ghost use Rattle.found.specs.Found.{found};
-ghost use Rattle.found.specs.Places.{placeOf, Lies};
+ghost use Rattle.found.specs.Places.{placeOf, Lies, mostItems, sortRoom};
 ghost use Rattle.lists.specs.Each.{Each};
 ghost use Rattle.duplicates.specs.Duplicates.{lastMarks, duplicateStage};
 ghost use Rattle.finishing.specs.Finishing.{freeings};
@@ -35,7 +35,7 @@ fn close_full(image: &mut [u8], table: Table, allowed: u64) -> Went
 
 // Stage 4, on the items at the first `n` places in `room`.
 fn repair_items(image: &mut [u8], table: Table, room: &mut [u16], n: usize, allowed: u64) -> Went
-    requires { ⌜ Sized table × PagesPlaced (sectorsOf (now image)) (listed table) (freed table) × Each (Lies (now image)) (listed table) × (take n (now room) ≡ map placeOf (found (listed table) (now image))) × (n ≤ 2016) × (4032 ≤ length (now room)) ⌝ }
+    requires { ⌜ Sized table × PagesPlaced (sectorsOf (now image)) (listed table) (freed table) × Each (Lies (now image)) (listed table) × (take n (now room) ≡ map placeOf (found (listed table) (now image))) × (n ≤ mostItems) × (sortRoom ≤ length (now room)) ⌝ }
     ensures { λ r. ⌜ Made (tag Stage.Duplicates (duplicateStage (listed table) (now (image .entry)))) allowed (now (image .entry)) (now (image .exit)) r ⌝ }
 {
     let r = duplicates::duplicate_stage(image, table, room, n, allowed);

@@ -6,7 +6,7 @@ use Prim.Native.Nat.{ℕ, _≤_}
 use lib.ListN.{length}
 use Rattle.lists.specs.Lists.{keep, better, best}
 use Rattle.found.specs.Found.{Found, newer, indexOf}
-use Rattle.found.specs.Places.{itemAt, Placed}
+use Rattle.found.specs.Places.{itemAt, Placed, mostItems}
 use Rattle.lists.specs.Each.{Each}
 use Rattle.versions.specs.declared.sound.Newest.{Newest}
 use Rattle.versions.specs.declared.sound.Newest.the-variants.{At, Nothing}
@@ -14,7 +14,7 @@ use Rattle.versions.specs.Versions.{counting, soundOne}
 
 -- the places that a stage works on
 pub record Gathered (l places : List ℕ) : Type 0 where
-  pub few : length places ≤ 2016
+  pub few : length places ≤ mostItems
   pub each : Each (Placed l) places
 
 -- the index that an answer names
