@@ -13,7 +13,7 @@ use Rattle.page.specs.State.{allOnes, stateOf, isFree}
 use Rattle.page.proofs.Tests.{both-first}
 use Rattle.reader.specs.declared.Read.{Read}
 use Rattle.reader.specs.Reader.{readOf, readOn, hasNone, readFrom, beginsAt, readerAfter}
-use Rattle.reader.proofs.Told.{step-end}
+use Rattle.reader.proofs.Told.{read-end}
 
 module _ (s : List ℕ) where
   -- where the sector has no item
@@ -41,7 +41,7 @@ module _ (s : List ℕ) where
   -- from the end on nothing is handed out, however often one asks
   pub end-there : length s ≡ 4096 → (e : ℕ) → 126 ≤ e → readOn s e ≡ readOf []
   unfolding readOn
-  end-there w e h = rw (eq-eqb _ _ w) (step-end s e h)
+  end-there w e h = rw (eq-eqb _ _ w) (read-end s e h)
 
   -- "A Blank or Corrupt sector has none.": at every place
   pub none-free : length s ≡ 4096 → isFree (stateOf s) ≡ true → (e : ℕ) → readFrom s e ≡ readOf []

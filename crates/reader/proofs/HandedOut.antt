@@ -20,9 +20,9 @@ abbrev pub told : Laid → ItemHeader
 told x = headerOf (x .entry) (x .raw)
 
 module _ (s : List ℕ) (whole : length s ≡ 4096) where
-  step-walks : (e : ℕ) → readOn s e ≡ readOf (walk s 126 e)
+  read-walks : (e : ℕ) → readOn s e ≡ readOf (walk s 126 e)
   unfolding readOn
-  step-walks e = rw (eq-eqb _ _ whole)
+  read-walks e = rw (eq-eqb _ _ whole)
 
   -- from a place on
   hands : (n e : ℕ) → 126 < e + n → handedOut (readOn s) n e ≡ map told (walk s 126 e)
@@ -35,11 +35,11 @@ module _ (s : List ℕ) (whole : length s ≡ 4096) where
   hands (suc n) e h = go (λ m g. hands n m g) (ahead s 126 e (omega arith))
     where
       go : ((m : ℕ) → 126 < m + n → handedOut (readOn s) n m ≡ map told (walk s 126 m)) → Ahead s e → handedOut (readOn s) (suc n) e ≡ map told (walk s 126 e)
-      go ih (done w) = rw (step-walks e, w)
+      go ih (done w) = rw (read-walks e, w)
       go ih (meets j l q w) =
           let r = item-span s j q in
           let m = j + spanOf (entryAt s j) in
-          rw (step-walks e, w, span-told s (64 + j * 32) (spanOf (entryAt s j)) (r .0)) (ap (λ (hs : List ItemHeader). told (laidAt s j) ∷ hs) (ih m (omega arith)))
+          rw (read-walks e, w, span-told s (64 + j * 32) (spanOf (entryAt s j)) (r .0)) (ap (λ (hs : List ItemHeader). told (laidAt s j) ∷ hs) (ih m (omega arith)))
 
   none : hasNone s ≡ true → itemsOf s ≡ walk s 126 126
   unfolding itemsOf hasNone

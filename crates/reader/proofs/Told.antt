@@ -31,12 +31,12 @@ module _ (t : List ℕ) (at n : ℕ) (h : 1 ≤ n) where
 
 module _ (t : List ℕ) (i : ℕ) where
   -- what is handed out where an item begins, and past the last entry
-  pub step-item : isItem t i ≡ true → readOf (walk t 126 i) ≡ record { handed = Item (headerOf i (entryAt t i)); next = i + spanOf (entryAt t i) }
+  pub read-item : isItem t i ≡ true → readOf (walk t 126 i) ≡ record { handed = Item (headerOf i (entryAt t i)); next = i + spanOf (entryAt t i) }
   unfolding readOf
-  step-item e =
+  read-item e =
       let n = spanOf (entryAt t i) in
       let s = item-span t i e .0 in
       rw (walk-item t i e, header-told t (64 + i * 32) n s i, span-told t (64 + i * 32) n s)
 
-  pub step-end : 126 ≤ i → readOf (walk t 126 i) ≡ readOf []
-  step-end h = ap readOf (walk-past t 126 i h)
+  pub read-end : 126 ≤ i → readOf (walk t 126 i) ≡ readOf []
+  read-end h = ap readOf (walk-past t 126 i h)

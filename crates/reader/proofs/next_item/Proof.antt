@@ -12,7 +12,7 @@ use Rattle.page.proofs.Walking.{item-span, walk-skip, reading-none, reading-ite
 use Rattle.reader.specs.declared.Handed.the-variants.{Item as ItemOf}
 use Rattle.reader.specs.declared.Read.{Read}
 use Rattle.reader.specs.Reader.{readOf}
-use Rattle.reader.proofs.Told.{step-item, step-end}
+use Rattle.reader.proofs.Told.{read-item, read-end}
 use Rattle.reader.proofs.next_item.Statement.{statement}
 use Rattle.reader.proofs.next_item.Tie as tie
 
@@ -54,13 +54,13 @@ returns c =
     let s = l .before .before .args .s .now in
     let e = told (c .before) in
     let made : ItemHeader → ℕ → Read = λ h n. record { handed = ItemOf h; next = l .loop .i + n } in
-    ap₂ made (e .1) (e .2) ∙ sym (step-item s (l .loop .i) (e .0)) ∙ ap readOf (l .loop .inv)
+    ap₂ made (e .1) (e .2) ∙ sym (read-item s (l .loop .i) (e .0)) ∙ ap readOf (l .loop .inv)
 
 returns-2 : tie.Need-returns-2 Inv-loop μ-loop
 unfolding readOf
 returns-2 c =
     let l = c .before in
-    sym (step-end (l .before .before .args .s .now) (l .loop .i) (c .loop-test .left)) ∙ ap readOf (l .loop .inv)
+    sym (read-end (l .before .before .args .s .now) (l .loop .i) (c .loop-test .left)) ∙ ap readOf (l .loop .inv)
 
 pub next-item-spec : {M : Type 1} → statement M
 next-item-spec =

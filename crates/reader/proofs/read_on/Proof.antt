@@ -62,9 +62,9 @@ use Rattle.reader.proofs.ItemReader.next.Symbol as next-def
 use Rattle.reader.proofs.ItemReader.next.Symbol.{name as #reader·next}
 use Rattle.reader.proofs.ItemReader.next.Met as next-thm
 use Rattle.reader.proofs.read_of as read
-use Rattle.reader.proofs.read_of.Symbol as step-def
+use Rattle.reader.proofs.read_of.Symbol as read-def
 use Rattle.reader.proofs.read_of.Symbol.{name as #reader·read-of}
-use Rattle.reader.proofs.read_of.Met as step-thm
+use Rattle.reader.proofs.read_of.Met as read-thm
 use Rattle.reader.proofs.read_on.Key.{name as #reader·read-on}
 use Rattle.reader.proofs.read_on as f
 use Rattle.reader.proofs.read_on.Statement as stated
@@ -77,11 +77,11 @@ module _ {M : Type 1} (𝓤 : URA M) (H : Heap 𝓤) (A : Atoms 𝓤) (mem : Mem
   abbrev Next : Contract 𝓤
   Next = tripleOf 𝓤 H A next.signature (next.spec 𝓤 H A mem run)
 
-  abbrev StepOf : Contract 𝓤
-  StepOf = tripleOf 𝓤 H A read.signature (read.spec 𝓤 H A mem run)
+  abbrev ReadOf : Contract 𝓤
+  ReadOf = tripleOf 𝓤 H A read.signature (read.spec 𝓤 H A mem run)
 
-  step-said : (t : Handed) (m : ℕ) (r : Read) → ent 𝓤 (ensured 𝓤 H A read.ended (read.clauses 𝓤 H A mem run) tt (t, (m, tt)) tt r) (fact 𝓤 ((r .handed ≡ t) × (r .next ≡ m)))
-  step-said t m r = exE 𝓤 _ (λ ws. snd∗ 𝓤 (sem 𝓤 H A (lasts read.ended tt (t, (m, tt)) ws)) (fact 𝓤 ((r .handed ≡ t) × (r .next ≡ m))))
+  read-said : (t : Handed) (m : ℕ) (r : Read) → ent 𝓤 (ensured 𝓤 H A read.ended (read.clauses 𝓤 H A mem run) tt (t, (m, tt)) tt r) (fact 𝓤 ((r .handed ≡ t) × (r .next ≡ m)))
+  read-said t m r = exE 𝓤 _ (λ ws. snd∗ 𝓤 (sem 𝓤 H A (lasts read.ended tt (t, (m, tt)) ws)) (fact 𝓤 ((r .handed ≡ t) × (r .next ≡ m))))
 
 module _ {M : Type 1} (𝓤 : URA M) (H : Heap 𝓤) (A : Atoms 𝓤) (W : Given 𝓤 H A) (at-mem : Memory → SProp 𝓤) (run : Routine → Fun 𝓤) (κ : Lft) (q : Share) (s : RefT (List ℕ)) (n : ℕ) (n-fits : n < 2 ^ 64) where
   abbrev v : Val
@@ -94,8 +94,8 @@ module _ {M : Type 1} (𝓤 : URA M) (H : Heap 𝓤) (A : Atoms 𝓤) (W : Given
   abbrev rv : Val
   rv = vstruct (vcons v (vcons (vint w64 n) vnil))
 
-  abbrev stepped : Read
-  stepped = readOn (now s) n
+  abbrev read-there : Read
+  read-there = readOn (now s) n
 
   abbrev a : RefT (List ℕ) × (ℕ × Unit {0})
   a = (s, (n, tt))
@@ -145,25 +145,25 @@ module _ {M : Type 1} (𝓤 : URA M) (H : Heap 𝓤) (A : Atoms 𝓤) (W : Given
   goes-next ν l δ = qed W (toks ν ∷ ‵ (lent ν l δ) ∷ []) ∵ nothing ! $ move ! (2 ∷ 0 ∷ []) $ fjoin ! $ move ! (1 ∷ 0 ∷ []) $ join ! $ frame ! $ done !
 
   -- the call of `read_of`
-  abbrev to-step : Handed → Val → ℕ → StepOf 𝓤 H A at-mem run .Ghost
-  to-step t u m = ((tt, tt, tt, (t, (m, tt)), (u ∷ [], (vint w64 m ∷ [], tt))), tt)
+  abbrev to-read : Handed → Val → ℕ → ReadOf 𝓤 H A at-mem run .Ghost
+  to-read t u m = ((tt, tt, tt, (t, (m, tt)), (u ∷ [], (vint w64 m ∷ [], tt))), tt)
 
-  goes-step : (t : Handed) (u : Val) (m : ℕ) → m < 2 ^ 64 → ent 𝓤 (sem 𝓤 H A (F.the-row .own t (u ∷ []))) (StepOf 𝓤 H A at-mem run .pre (to-step t u m))
-  goes-step t u m fits =
+  goes-read : (t : Handed) (u : Val) (m : ℕ) → m < 2 ^ 64 → ent 𝓤 (sem 𝓤 H A (F.the-row .own t (u ∷ []))) (ReadOf 𝓤 H A at-mem run .pre (to-read t u m))
+  goes-read t u m fits =
       qed W (‵ (F.the-row .own t (u ∷ [])) ∷ []) ∵ nothing ! $ owned ! usize (Is usize) (uint-makes 𝓤 H A W w64) m _ (refl, fits) $ fjoin ! $ move ! (1 ∷ 0 ∷ []) $ fjoin ! $ nothing ! $ join ! $ frame ! $ done !
 
-  exits : (r : Read) (z : Val) → r ≡ stepped → ent 𝓤 (⋆ 𝓤 H A (tok ∷ ‵ (S.the-row .own r (z ∷ [])) ∷ ‵ Own ∷ [])) (Post z)
+  exits : (r : Read) (z : Val) → r ≡ read-there → ent 𝓤 (⋆ 𝓤 H A (tok ∷ ‵ (S.the-row .own r (z ∷ [])) ∷ ‵ Own ∷ [])) (Post z)
   exits r z e =
       qed W (tok ∷ ‵ (S.the-row .own r (z ∷ [])) ∷ ‵ Own ∷ []) ∵
       suffices ! _ (ends-at 𝓤 H A f.ended stayed (f.clauses 𝓤 H A at-mem run) W (((κ, tt), (q, tt), tt, a, vals), tt) z r (tt, (tt, tt)) (tt, (tt, tt))) $ says ! e $ frame ! $
       nothing ! $ owned ! usize (Is usize) (uint-makes 𝓤 H A W w64) n _ (refl, n-fits) $ fjoin ! $ move ! (2 ∷ 0 ∷ []) $ fjoin ! $ done !
 
-  joined : (r : Read) (z : Val) (w y : Fml) → r ≡ stepped → ent 𝓤 (⋆ 𝓤 H A (‵ (S.the-row .own r (z ∷ [])) ∷ ‵ w ∷ ‵ (flft κ ql) ∷ (‵ (flft κ qr) ⊛ ‵ ftrue) ∷ ‵ ftrue ∷ ‵ Own ∷ ‵ y ∷ [])) (Post z)
+  joined : (r : Read) (z : Val) (w y : Fml) → r ≡ read-there → ent 𝓤 (⋆ 𝓤 H A (‵ (S.the-row .own r (z ∷ [])) ∷ ‵ w ∷ ‵ (flft κ ql) ∷ (‵ (flft κ qr) ⊛ ‵ ftrue) ∷ ‵ ftrue ∷ ‵ Own ∷ ‵ y ∷ [])) (Post z)
   joined r z w y e =
       qed W (‵ (S.the-row .own r (z ∷ [])) ∷ ‵ w ∷ ‵ (flft κ ql) ∷ (‵ (flft κ qr) ⊛ ‵ ftrue) ∷ ‵ ftrue ∷ ‵ Own ∷ ‵ y ∷ []) ∵
       move ! (3 ∷ []) $ split ! $ move ! (4 ∷ 0 ∷ []) $ use2 W (‵ (flft κ q)) (W .lfts .lft-join κ q) $ join ! $ keep ! (0 ∷ 1 ∷ 4 ∷ []) $ by ! (exits r z e)
 
-  module _ (C : Calls 𝓤 H) (Λ : Loops 𝓤 H) (fm : FmC 𝓤 H (W .laws) C) (known-next : Triple 𝓤 (C #reader·next) (Next 𝓤 H A at-mem run)) (known-step : Triple 𝓤 (C #reader·read-of) (StepOf 𝓤 H A at-mem run)) where
+  module _ (C : Calls 𝓤 H) (Λ : Loops 𝓤 H) (fm : FmC 𝓤 H (W .laws) C) (known-next : Triple 𝓤 (C #reader·next) (Next 𝓤 H A at-mem run)) (known-read : Triple 𝓤 (C #reader·read-of) (ReadOf 𝓤 H A at-mem run)) where
     typed : Is (ShrSlice (named 0) κ u8) s (v ∷ []) → Holds (hasTy (T′.mir erased) rv) × WT rv
     typed p = (tt, (shr-slice-lawful 𝓤 H A W (named 0) κ u8 .typed s (v ∷ []) p .0 .1, (record { fits = n-fits }, tt)))
 
@@ -188,8 +188,8 @@ module _ {M : Type 1} (𝓤 : URA M) (H : Heap 𝓤) (A : Atoms 𝓤) (W : Given
         -- [what `next` asks; the lender's part; the rest of ν; what s owns; the place's; _6; …]
         calls-at ! fm (Next 𝓤 H A at-mem run) known-next (to-next ν l₃ δ) (and-then ! (load ! (from ! (stop !)) (look ! 7 refl)) (no-more !)) (λ u.
         use1 W (later (some (λ (t : Handed). (toks ν ⊛ ‵ (F.the-row .own t (u ∷ []))) ⊛ raw (ensured 𝓤 H A next.ended (next.clauses 𝓤 H A at-mem run) (ν ∷ κ, (κ, tt)) (x l₃ δ, tt) tt t)))) (id⊢ 𝓤 _) $ await ! tt $ pick ! (λ t.
-        split ! $ move ! (1 ∷ []) $ use1 W (some (λ (ws : ItemReader × Unit {0}). ‵ (lasts next.ended (ν ∷ κ, (κ, tt)) (x l₃ δ, tt) ws) ⊛ raw (fact 𝓤 ((t ≡ stepped .handed) × (ws .0 ≡ movedReader h))))) (id⊢ 𝓤 _) $ pick ! (λ ws.
-        split ! $ move ! (1 ∷ []) $ heard ! ((t ≡ stepped .handed) × (ws .0 ≡ movedReader h)) (λ e. fsplit ! $
+        split ! $ move ! (1 ∷ []) $ use1 W (some (λ (ws : ItemReader × Unit {0}). ‵ (lasts next.ended (ν ∷ κ, (κ, tt)) (x l₃ δ, tt) ws) ⊛ raw (fact 𝓤 ((t ≡ read-there .handed) × (ws .0 ≡ movedReader h))))) (id⊢ 𝓤 _) $ pick ! (λ ws.
+        split ! $ move ! (1 ∷ []) $ heard ! ((t ≡ read-there .handed) × (ws .0 ≡ movedReader h)) (λ e. fsplit ! $
         move ! (2 ∷ []) $ split ! $ move ! (1 ∷ []) $ peeks ! F.the-row (Is F.the-row) (shows 𝓤 H A F.the-row) t (u ∷ []) (λ is.
         land ! (from ! (stop !)) (init ! 12 refl (EL.lawful F.the-type F′.the-laws 𝓤 H A W tt .typed t _ is .0)) $
         -- the lifetime is ended, and the local is back
@@ -199,20 +199,20 @@ module _ {M : Type 1} (𝓤 : URA M) (H : Heap 𝓤) (A : Atoms 𝓤) (W : Given
         move ! (1 ∷ []) $ peeks ! B (Is B) (shows 𝓤 H A B) (ws .0) (T′.lowered (ws .0) ∷ []) (λ isb. move ! (1 ∷ 0 ∷ []) $
         -- [_3; what the reader owns; κ's left half; κ's right half; the result; true; what s owns; the place's; _6; …]
         assigns ! (of-opd ! (load ! (from ! (fld ! refl (stop !))) (look-in ! 0 (sub ! 1 refl (whole !))))) (from ! (stop !)) (init ! 8 refl (tt, record { fits = place-fits (ws .0) _ isb })) $
-        move ! (4 ∷ []) $ use1 W (raw (StepOf 𝓤 H A at-mem run .pre (to-step t u (ws .0 .entry)))) (goes-step t u (ws .0 .entry) (place-fits (ws .0) _ isb)) $
-        calls-at ! fm (StepOf 𝓤 H A at-mem run) known-step (to-step t u (ws .0 .entry)) (and-then ! (load ! (from ! (stop !)) (look ! 12 refl)) (and-then ! (load ! (from ! (stop !)) (look ! 8 refl)) (no-more !))) (λ z.
+        move ! (4 ∷ []) $ use1 W (raw (ReadOf 𝓤 H A at-mem run .pre (to-read t u (ws .0 .entry)))) (goes-read t u (ws .0 .entry) (place-fits (ws .0) _ isb)) $
+        calls-at ! fm (ReadOf 𝓤 H A at-mem run) known-read (to-read t u (ws .0 .entry)) (and-then ! (load ! (from ! (stop !)) (look ! 12 refl)) (and-then ! (load ! (from ! (stop !)) (look ! 8 refl)) (no-more !))) (λ z.
         use1 W (later (some (λ (r : Read). (‵ ftrue ⊛ ‵ (S.the-row .own r (z ∷ []))) ⊛ raw (ensured 𝓤 H A read.ended (read.clauses 𝓤 H A at-mem run) tt (t, (ws .0 .entry, tt)) tt r)))) (id⊢ 𝓤 _) $ await ! tt $ pick ! (λ r.
-        split ! $ move ! (1 ∷ []) $ use1 W (raw (fact 𝓤 ((r .handed ≡ t) × (r .next ≡ ws .0 .entry)))) (step-said 𝓤 H A at-mem run t (ws .0 .entry) r) $ heard ! ((r .handed ≡ t) × (r .next ≡ ws .0 .entry)) (λ e′. split ! $ drop ! $
+        split ! $ move ! (1 ∷ []) $ use1 W (raw (fact 𝓤 ((r .handed ≡ t) × (r .next ≡ ws .0 .entry)))) (read-said 𝓤 H A at-mem run t (ws .0 .entry) r) $ heard ! ((r .handed ≡ t) × (r .next ≡ ws .0 .entry)) (λ e′. split ! $ drop ! $
         peeks ! S.the-row (Is S.the-row) (shows 𝓤 H A S.the-row) r (z ∷ []) (λ iss. land ! (from ! (stop !)) (init ! 19 refl (LL.lawful S.the-type S′.the-laws 𝓤 H A W .typed r _ iss .0)) $
-        -- [the step; _3; what the reader owns; κ's left half; κ's right half; true; what s owns; the place's; _6; …]
+        -- [the read; _3; what the reader owns; κ's left half; κ's right half; true; what s owns; the place's; _6; …]
         returns ! (look ! 19 refl) $ forget ! 1 refl $ forget ! 8 refl $ forget ! 10 refl $ forget ! 12 refl $ forget ! 15 refl $ forget ! 17 refl $ forget ! 19 refl $
         move ! (19 ∷ 20 ∷ []) $ free1 ! $ move ! (17 ∷ 18 ∷ []) $ free1 ! $ move ! (15 ∷ 16 ∷ []) $ free1 ! $ move ! (1 ∷ 14 ∷ []) $ free1 ! $ move ! (11 ∷ 12 ∷ []) $ free1 ! $ move ! (9 ∷ 10 ∷ []) $ free1 ! $ move ! (7 ∷ 8 ∷ []) $ free1 ! $ free0 ! $
         by ! (joined r z (B .own (ws .0) (T′.lowered (ws .0) ∷ [])) (owns (usize ∷ []) (n, tt) (vint w64 n ∷ [], tt)) (λ i. record { handed = (e′ .0 ∙ e .0) i; next = (e′ .1 ∙ ap (λ (k : ItemReader). k .entry) (e .1)) i })))))))))))))))))))))
 
-module _ {M : Type 1} (𝓤 : URA M) (H : Heap 𝓤) (A : Atoms 𝓤) (W : Given 𝓤 H A) (mem : Memory → SProp 𝓤) (run : Routine → Fun 𝓤) (𝓣 : Tables 𝓤 H) (known-next : Triple 𝓤 (𝓣 .C #reader·next) (Next 𝓤 H A mem run)) (known-step : Triple 𝓤 (𝓣 .C #reader·read-of) (StepOf 𝓤 H A mem run)) where
+module _ {M : Type 1} (𝓤 : URA M) (H : Heap 𝓤) (A : Atoms 𝓤) (W : Given 𝓤 H A) (mem : Memory → SProp 𝓤) (run : Routine → Fun 𝓤) (𝓣 : Tables 𝓤 H) (known-next : Triple 𝓤 (𝓣 .C #reader·next) (Next 𝓤 H A mem run)) (known-read : Triple 𝓤 (𝓣 .C #reader·read-of) (ReadOf 𝓤 H A mem run)) where
   read-on-walks : Walks 𝓤 H A f.ended stayed (WpFn 𝓤 H (𝓣 .C) (𝓣 .Λ) code.function) (f.clauses 𝓤 H A mem run)
   read-on-walks = walked 𝓤 H A f.ended stayed (f.clauses 𝓤 H A mem run) (WpFn 𝓤 H (𝓣 .C) (𝓣 .Λ) code.function) (λ κs. (slice-vals, (uint-vals w64, tt))) (λ κs. (shr-slice-tells (named 0) (κs .0) u8, (uint-tells w64, tt)))
-      (λ κs qs bounds a g are. via 𝓤 _ (fst∗ 𝓤 _ (emp 𝓤)) (walk 𝓤 H A W mem run (κs .0) (qs .0) (a .0) (a .1 .0) (are .1 .0 .1) (𝓣 .C) (𝓣 .Λ) (fmOf 𝓤 H (W .laws) 𝓣) known-next known-step (are .0)))
+      (λ κs qs bounds a g are. via 𝓤 _ (fst∗ 𝓤 _ (emp 𝓤)) (walk 𝓤 H A W mem run (κs .0) (qs .0) (a .0) (a .1 .0) (are .1 .0 .1) (𝓣 .C) (𝓣 .Λ) (fmOf 𝓤 H (W .laws) 𝓣) known-next known-read (are .0)))
 
   read-on-meets : Meets 𝓤 H A f.signature (WpFn 𝓤 H (𝓣 .C) (𝓣 .Λ) code.function) (f.spec 𝓤 H A mem run)
   read-on-meets =
@@ -225,4 +225,4 @@ read-on-spec 𝓤 H 𝓜 𝓖 𝓡 =
     (tables 𝓤 H 𝓜 𝓡 code.env .C) (tables 𝓤 H 𝓜 𝓡 code.env .Λ) #reader·read-on code.function (code.unfolded 𝓤 H 𝓜 𝓡)
     (read-on-meets 𝓤 H (𝓖 .A) (givenOf 𝓤 H 𝓜 𝓖) (𝓜 .mem) (𝓡 .run) (tablesOf 𝓤 H 𝓜 (tables 𝓤 H 𝓜 𝓡 code.env))
     (cited 𝓤 H (Next 𝓤 H (𝓖 .A) (𝓜 .mem) (𝓡 .run)) 𝓜 𝓡 code.env #reader·next next-def.routine code.calls-reader·ItemReader·next (next-thm.met 𝓤 H 𝓜 𝓖 𝓡))
-    (cited 𝓤 H (StepOf 𝓤 H (𝓖 .A) (𝓜 .mem) (𝓡 .run)) 𝓜 𝓡 code.env #reader·read-of step-def.routine code.calls-reader·read-of (step-thm.met 𝓤 H 𝓜 𝓖 𝓡)))
+    (cited 𝓤 H (ReadOf 𝓤 H (𝓖 .A) (𝓜 .mem) (𝓡 .run)) 𝓜 𝓡 code.env #reader·read-of read-def.routine code.calls-reader·read-of (read-thm.met 𝓤 H 𝓜 𝓖 𝓡)))
