@@ -189,7 +189,6 @@ branches! {
         ReclaimResult5 "reclaim: result 5",
         ReclaimResult6 "reclaim: result 6",
         ReclaimResult7 "reclaim: result 7",
-        ReclaimResult8 "reclaim: result 8",
         ReclaimResult3Before4 "reclaim: result 3 where 4 would hold",
         ReclaimResult5Before6 "reclaim: result 5 where 6 would hold",
         ReclaimJustEnough "reclaim: greatest sequence 0xFFFFFFFD",

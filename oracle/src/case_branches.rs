@@ -232,7 +232,6 @@ fn branches_of_reclaim(case: &Case) -> Branches {
         (outcome.result == 5, Branch::ReclaimResult5),
         (outcome.result == 6, Branch::ReclaimResult6),
         (outcome.result == 7, Branch::ReclaimResult7),
-        (outcome.result == 8, Branch::ReclaimResult8),
         (ended && fits(&outcome, case), Branch::ReclaimFitsExactly),
     ];
     let mut met = held(&conditions);

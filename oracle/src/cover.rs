@@ -7,7 +7,7 @@ use crate::case_branches::branches_of;
 use crate::generate::case_of;
 use crate::protocol::Operation;
 
-/// Prints the table. The answer: whether every row was met, result 8 apart.
+/// Prints the table. The answer: whether every row was met.
 pub fn cover(count: u64, seed: u64, operations: &[Operation]) -> bool {
     let mut table: BTreeMap<Branch, u64> = Branch::ALL.iter().map(|branch| (*branch, 0)).collect();
     for number in 0..count {
@@ -18,13 +18,8 @@ pub fn cover(count: u64, seed: u64, operations: &[Operation]) -> bool {
     println!("{count} cases, seed {seed}: in how many each branch was met");
     let mut complete = true;
     for (number, (branch, met)) in table.into_iter().enumerate() {
-        let unreachable = branch == Branch::ReclaimResult8;
-        let remark = match (met, unreachable) {
-            (_, true) => "  no image has it: a page is Active, Full or Freeing, and 3 comes first",
-            (0, false) => "  NOT MET",
-            _ => "",
-        };
-        complete &= met > 0 || unreachable;
+        let remark = if met == 0 { "  NOT MET" } else { "" };
+        complete &= met > 0;
         println!("{:>4} {:<66} {met:>8}{remark}", number + 1, branch.text());
     }
     complete

@@ -1,4 +1,4 @@
-//! A plain model of document 01, a generator of cases, and comparisons with the model. README.md says what each
+//! A plain model of documents 01 and 02, a generator of cases, and comparisons with the model. README.md says what each
 //! file holds; main.rs has the commands.
 
 pub mod active_order;

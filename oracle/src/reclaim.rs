@@ -86,7 +86,8 @@ fn free_page(run: &mut Run, chosen: &Page, way: Way) {
     run.erase(chosen.sector);
 }
 
-/// "Order: [..] reclaim 1, 3, 4, 8, 5, 6; then steps." "Scan; no Active order."
+/// "Order: [..] reclaim 1, 3, 4, [..] 5, 6; then steps." "Scan; no Active order." Document 02, No. 12, took the 8 out
+/// of this order: "The number 8 is not used again."
 fn rules(run: &mut Run) -> Result<(), u8> {
     if whole_sectors(&run.image).is_none() {
         return Err(1);
@@ -101,10 +102,8 @@ fn rules(run: &mut Run) -> Result<(), u8> {
         run.met(if lists.pages.is_empty() { Branch::ReclaimNoPage } else { Branch::ReclaimAllWritten });
         return Err(4);
     };
-    // No image comes here: a page is Active, Full or Freeing, and result 3 was judged before.
-    if !matches!(chosen.state, State::Full | State::Freeing) {
-        return Err(8);
-    }
+    // "the chosen page is always Full or Freeing once result 3 has been passed": held to it in every case that is run.
+    assert!(matches!(chosen.state, State::Full | State::Freeing), "a page that is neither Full nor Freeing is chosen");
     let way = way(run, &lists, &chosen)?;
     notes::choice(run, &lists.pages, &candidates, &chosen);
     free_page(run, &chosen, way);

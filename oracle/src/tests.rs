@@ -186,7 +186,6 @@ fn the_recorded_sample_meets_every_branch() {
     let folder = Path::new(env!("CARGO_MANIFEST_DIR")).join("sample");
     check_folder(&folder);
     let mut unmet: BTreeSet<Branch> = Branch::ALL.iter().copied().collect();
-    unmet.remove(&Branch::ReclaimResult8);
     for name in FILES {
         let input = std::fs::read(file_of(&folder, name, "in")).expect("readable files");
         for case in decode_all(&input).expect("whole cases") {

@@ -3,3 +3,4 @@ pub mod Made
 pub mod Ended
 pub mod Values
 pub mod Numbers
+pub mod Unused

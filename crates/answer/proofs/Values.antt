@@ -15,7 +15,7 @@ use Rattle.flash.proofs.Order.{le-or-gt}
 use Rattle.answer.specs.declared.Stage.{Stage}
 use Rattle.answer.specs.declared.Went.{Went}
 use Rattle.answer.specs.declared.Answer.{Answer}
-use Rattle.answer.specs.declared.Answer.the-variants.{Done, NotSectors, FewRecords, ActiveStands, AllWritten, NoFreeSector, SequencesSpent, Stopped, NotReclaimable}
+use Rattle.answer.specs.declared.Answer.the-variants.{Done, NotSectors, FewRecords, ActiveStands, AllWritten, NoFreeSector, SequencesSpent, Stopped}
 use Rattle.answer.specs.Answer.{numberOf, stepsOf, stageOf, refusal}
 use Rattle.answer.specs.Staged.{Staged, untag, left, stoppedAt, answerOf}
 use Rattle.answer.specs.Went.{toldOf}
@@ -28,7 +28,7 @@ use Rattle.answer.proofs.Made.{untag-take, went-short, told-is}
 answerBy : ℕ → ℕ → Option Stage → Answer
 answerBy k n (some s) = Stopped s n
 answerBy k n none =
-    cond (eqb k 0) (Done n) (cond (eqb k 1) NotSectors (cond (eqb k 2) FewRecords (cond (eqb k 3) ActiveStands (cond (eqb k 4) AllWritten (cond (eqb k 5) NoFreeSector (cond (eqb k 6) SequencesSpent NotReclaimable))))))
+    cond (eqb k 0) (Done n) (cond (eqb k 1) NotSectors (cond (eqb k 2) FewRecords (cond (eqb k 3) ActiveStands (cond (eqb k 4) AllWritten (cond (eqb k 5) NoFreeSector SequencesSpent)))))
 
 by-values : (a : Answer) → a ≡ answerBy (numberOf a) (stepsOf a) (stageOf a)
 unfolding answerBy
@@ -40,7 +40,6 @@ by-values AllWritten = refl
 by-values NoFreeSector = refl
 by-values SequencesSpent = refl
 by-values (Stopped s n) = refl
-by-values NotReclaimable = refl
 
 -- what is told of an answer determines it
 pub told-same : {xs : List Line} {n : ℕ} {ts : List Staged} {r r′ : Answer} → Told xs n ts r → Told xs n ts r′ → r ≡ r′
@@ -76,7 +75,6 @@ refusal-values AllWritten e = (refl, refl)
 refusal-values NoFreeSector e = (refl, refl)
 refusal-values SequencesSpent e = (refl, refl)
 refusal-values (Stopped s n) e = absurd (let z : _≡_ {A = ℕ} 0 1 = cc in omega arith)
-refusal-values NotReclaimable e = (refl, refl)
 
 pub no-steps : (a : Answer) → refusal a ≡ true → stepsOf a ≡ 0
 no-steps a e = refusal-values a e .0

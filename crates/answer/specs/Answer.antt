@@ -1,11 +1,12 @@
--- Rule. Document 01, Result numbers: the number and the values of each answer. Assumes nothing.
+-- Rule. Document 01, Result numbers: the number and the values of each answer. No answer has the number 8: document 02, No. 12, took it out, and it "is not
+-- used again". Assumes nothing.
 use mathlib.Core.Bool.{Bool, not, _&&_}
 use mathlib.Core.Option.{Option, none, some}
 use Prim.Native.Nat.{ℕ}
 use lib.Dec.{eqb}
 use Rattle.answer.specs.declared.Stage.{Stage}
 use Rattle.answer.specs.declared.Answer.{Answer}
-use Rattle.answer.specs.declared.Answer.the-variants.{Done, NotSectors, FewRecords, ActiveStands, AllWritten, NoFreeSector, SequencesSpent, Stopped, NotReclaimable}
+use Rattle.answer.specs.declared.Answer.the-variants.{Done, NotSectors, FewRecords, ActiveStands, AllWritten, NoFreeSector, SequencesSpent, Stopped}
 
 abbrev pub numberOf : Answer → ℕ
 numberOf (Done n) = 0  -- "the list of steps ended"
@@ -16,7 +17,6 @@ numberOf AllWritten = 4  -- "reclaim: no page below 126 Written"
 numberOf NoFreeSector = 5  -- "reclaim: a copy is needed, no sector free"
 numberOf SequencesSpent = 6  -- "greatest sequence above 0xFFFFFFFD"; "k Freeing pages .. above 0xFFFFFFFE - k"
 numberOf (Stopped s n) = 7  -- "allowance used up before the end"
-numberOf NotReclaimable = 8  -- "reclaim: chosen page neither Full nor Freeing"
 
 -- the steps made: "nothing changed, 0 steps" for a refusal
 abbrev pub stepsOf : Answer → ℕ
@@ -28,7 +28,6 @@ stepsOf AllWritten = 0
 stepsOf NoFreeSector = 0
 stepsOf SequencesSpent = 0
 stepsOf (Stopped s n) = n
-stepsOf NotReclaimable = 0
 
 -- "A stopped call says in which stage, and for the finish stage which source sector."
 abbrev pub stageOf : Answer → Option Stage
@@ -40,7 +39,6 @@ stageOf AllWritten = none
 stageOf NoFreeSector = none
 stageOf SequencesSpent = none
 stageOf (Stopped s n) = some s
-stageOf NotReclaimable = none
 
 -- "0 and 7 are no refusals."
 abbrev pub refusal : Answer → Bool

@@ -23,7 +23,6 @@ pub enum Answer {
     NoFreeSector,
     SequencesSpent,
     Stopped(Stage, u64),
-    NotReclaimable,
 }
 
 // What became of steps that have stages: all were made, and so many are still allowed; or none is, and this is the stage of the first that was not made.
@@ -45,7 +44,6 @@ pub fn number(answer: Answer) -> u8
         Answer::NoFreeSector => 5,
         Answer::SequencesSpent => 6,
         Answer::Stopped(_, _) => 7,
-        Answer::NotReclaimable => 8,
     }
 }
 
@@ -62,7 +60,6 @@ pub fn steps(answer: Answer) -> u64
         Answer::NoFreeSector => 0,
         Answer::SequencesSpent => 0,
         Answer::Stopped(_, n) => n,
-        Answer::NotReclaimable => 0,
     }
 }
 

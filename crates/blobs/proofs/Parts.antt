@@ -6,15 +6,15 @@ use Prim.Native.Nat.{ℕ}
 use Rattle.page.proofs.Tests.{neither-second}
 use Rattle.flash.specs.Step.{Step}
 use Rattle.lists.specs.Lists.{some-of, ascendFrom, ascending}
-use Rattle.lists.proofs.Member.{_∈_, refuted, true≢false}
-use Rattle.lists.proofs.Search.{keep-none, some-is}
+use Rattle.lists.proofs.Member.{_∈_}
+use Rattle.lists.proofs.Search.{keep-none, none-of}
 use Rattle.found.specs.Found.{Found, isChunk, isIndex, isPart, versionOf, groupOf}
 use Rattle.versions.specs.Versions.{judge, older}
 use Rattle.blobs.specs.Blobs.{blobSteps}
 
 module _ (fs : List Found) (none-here : some-of (λ (x : Found). isPart (x .raw)) fs ≡ false) where
   no-part : (x : Found) → x ∈ fs → isPart (x .raw) ≡ false
-  no-part x m = refuted (isPart (x .raw)) (λ e. true≢false (some-is (λ (x : Found). isPart (x .raw)) fs x m e) none-here)
+  no-part x m = none-of (λ (x : Found). isPart (x .raw)) fs none-here x m
 
   no-index : (x : Found) → x ∈ fs → isIndex (x .raw) ≡ false
   no-index x m = neither-second (isChunk (x .raw)) (isIndex (x .raw)) (no-part x m)

@@ -10,7 +10,7 @@ use Rattle.page.specs.declared.«record».PageRecord.{PageRecord}
 use Rattle.page.specs.State.{isFree}
 use Rattle.table.specs.Table.{sectorsOf}
 use Rattle.answer.specs.declared.Answer.{Answer}
-use Rattle.answer.specs.declared.Answer.the-variants.{Done, NotSectors, FewRecords, ActiveStands, AllWritten, NoFreeSector, SequencesSpent, Stopped, NotReclaimable}
+use Rattle.answer.specs.declared.Answer.the-variants.{Done, NotSectors, FewRecords, ActiveStands, AllWritten, NoFreeSector, SequencesSpent, Stopped}
 use Rattle.answer.specs.Answer.{numberOf}
 use Rattle.records.specs.declared.Rows.{Rows}
 use Rattle.records.specs.Records.{noRows}
@@ -69,7 +69,6 @@ module _ (m : List ℕ) (t : Rows) where
   handed-out NoFreeSector u e = none e
   handed-out SequencesSpent u e = none e
   handed-out (Stopped x k) u e = absurd (u refl)
-  handed-out NotReclaimable u e = none e
 
 module _ (l m : List ℕ) (r : Recovered) (p : Recovers l lent allowance m r) where
   pub rows-enough : r .rows .count ≤ length (r .rows .rows)

@@ -22,7 +22,7 @@ use Rattle.flash.proofs.Small.{Small, run-small, part-small}
 use Rattle.table.specs.Table.{sectorsOf, wholeSectors}
 use Rattle.table.proofs.Whole.{whole-is}
 use Rattle.answer.specs.declared.Answer.{Answer}
-use Rattle.answer.specs.declared.Answer.the-variants.{Done, NotSectors, FewRecords, ActiveStands, AllWritten, NoFreeSector, SequencesSpent, Stopped, NotReclaimable}
+use Rattle.answer.specs.declared.Answer.the-variants.{Done, NotSectors, FewRecords, ActiveStands, AllWritten, NoFreeSector, SequencesSpent, Stopped}
 use Rattle.answer.specs.Answer.{numberOf, stepsOf, refusal}
 use Rattle.lists.proofs.Member.{true≢false}
 use Rattle.records.specs.Records.{recordsTo}
@@ -67,7 +67,6 @@ number-most AllWritten = omega arith
 number-most NoFreeSector = omega arith
 number-most SequencesSpent = omega arith
 number-most (Stopped s n) = omega arith
-number-most NotReclaimable = omega arith
 
 head-most : (sectors : ℕ) (a : Answer) → sectors < 10 ^ 16 → stepsOf a ≤ mostSteps → length (head sectors a) ≤ 46
 unfolding head

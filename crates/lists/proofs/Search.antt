@@ -9,7 +9,7 @@ use native.Mathlib.Omega.{arith}
 use lib.Dec.{leb}
 use borrow.Author.Tests.{leb-true, leb-false}
 use Rattle.lists.specs.Lists.{keep, every, some-of, firstOf, better, best}
-use Rattle.lists.proofs.Member.{_∈_, true≢false, none≢some}
+use Rattle.lists.proofs.Member.{_∈_, true≢false, none≢some, refuted}
 
 module _ {A : Type 0} where
   -- ---- keep
@@ -100,6 +100,10 @@ module _ {A : Type 0} where
       go : (b : Bool) → some-of p xs ≡ true → cond b true (some-of p xs) ≡ true
       go true q = refl
       go false q = q
+
+  -- no one passes, so this member does not
+  pub none-of : (p : A → Bool) (xs : List A) → some-of p xs ≡ false → (y : A) → y ∈ xs → p y ≡ false
+  none-of p xs e y m = refuted (p y) (λ h. true≢false (some-is p xs y m h) e)
 
   pub some-in : (p : A → Bool) (xs : List A) → some-of p xs ≡ true → (y : A) × (y ∈ xs) × (p y ≡ true)
   unfolding some-of

@@ -7,16 +7,17 @@ use Prim.Native.Nat.{ℕ, _<_}
 use lib.Dec.{eqb, ltb}
 use Rattle.page.specs.State.{stateOf, isFree}
 use Rattle.flash.specs.Step.{sector}
-use Rattle.answer.specs.declared.Answer.the-variants.{ActiveStands, SequencesSpent, NotReclaimable}
-use Rattle.lists.specs.Lists.{keep, some-of, greatest}
+use Rattle.answer.specs.declared.Answer.the-variants.{ActiveStands, SequencesSpent}
+use Rattle.lists.specs.Lists.{some-of, greatest}
 use Rattle.lists.proofs.Member.{_∈_, true≢false}
-use Rattle.lists.proofs.Search.{keep-in, best-in, last-in}
+use Rattle.lists.proofs.Search.{last-in}
 use Rattle.table.specs.declared.Page.{Page}
 use Rattle.table.specs.Table.{sectorsOf, pages, frees, sequence, activePage}
 use Rattle.table.proofs.Pages.{pages-in, frees-in}
 use Rattle.plan.specs.declared.Plan.{Plan}
 use Rattle.plan.specs.declared.Plan.the-variants.{Refuse, Clear, Move}
-use Rattle.plan.specs.Plan.{candidate, next, closed, chosen, planTo, planWith, plan, noFewerPoints}
+use Rattle.plan.specs.Plan.{next, chosen, planTo, planWith, plan}
+use Rattle.plan.proofs.Chosen.{chosen-in}
 
 -- the sectors that a plan names are in the image, and they are two
 abbrev pub Named : List ℕ → Plan → Type 0
@@ -46,20 +47,16 @@ module _ (l : List ℕ) where
       go false = (pages-in l p h .1, frees-in l t f .0, apart p t h f)
 
   named-with : (o : Option Page) → chosen (pages l) ≡ o → Named l (planWith (pages l) (frees l) o)
-  unfolding planWith chosen
+  unfolding planWith
   named-with none e = tt
-  named-with (some p) e = go (closed (p .seen .state))
+  named-with (some p) e = go (eqb (p .seen .erased) 126)
     where
       h : p ∈ pages l
-      h = keep-in candidate (pages l) p (best-in (noFewerPoints (next (pages l))) (keep candidate (pages l)) p e) .0
+      h = chosen-in (pages l) e .0
 
-      full : (b : Bool) → Named l (cond b (Clear (p .sector)) (planTo (pages l) (p .sector) (getLast? (frees l))))
-      full true = pages-in l p h .1
-      full false = named-to p h (getLast? (frees l)) refl
-
-      go : (b : Bool) → Named l (cond b (cond (eqb (p .seen .erased) 126) (Clear (p .sector)) (planTo (pages l) (p .sector) (getLast? (frees l)))) (Refuse NotReclaimable))
-      go true = full (eqb (p .seen .erased) 126)
-      go false = tt
+      go : (b : Bool) → Named l (cond b (Clear (p .sector)) (planTo (pages l) (p .sector) (getLast? (frees l))))
+      go true = pages-in l p h .1
+      go false = named-to p h (getLast? (frees l)) refl
 
   pub named : Named l (plan (pages l) (frees l))
   unfolding plan

@@ -1,2 +1,4 @@
 pub mod Plan
+pub mod Closed
+pub mod Occurs
 pub mod Choosing

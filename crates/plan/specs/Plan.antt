@@ -1,12 +1,10 @@
 -- Rule. Document 01, Reclaim: points, choice and refusals of a page list ps with its free list fs. Assumes nothing.
-use mathlib.Core.Bool.{Bool, true, false, cond}
+use mathlib.Core.Bool.{Bool, cond}
 use mathlib.Core.Option.{Option, none, some}
 use mathlib.Core.List.{List, getLast?}
 use Prim.Native.Nat.{ℕ, suc, _+_, _-_, _*_}
 use lib.Dec.{eqb, leb, ltb}
-use Rattle.page.specs.declared.state.PageState.{PageState}
-use Rattle.page.specs.declared.state.PageState.the-variants.{Blank, Corrupt, Active, Full, Freeing}
-use Rattle.answer.specs.declared.Answer.the-variants.{ActiveStands, AllWritten, NoFreeSector, SequencesSpent, NotReclaimable}
+use Rattle.answer.specs.declared.Answer.the-variants.{ActiveStands, AllWritten, NoFreeSector, SequencesSpent}
 use Rattle.plan.specs.declared.Plan.{Plan}
 use Rattle.plan.specs.declared.Plan.the-variants.{Refuse, Clear, Move}
 use Rattle.lists.specs.Lists.{keep, some-of, best, greatest}
@@ -31,14 +29,6 @@ noFewerPoints n y x = leb (points n x) (points n y)
 unfoldable pub chosen : List Page → Option Page
 chosen ps = best (noFewerPoints (next ps)) (keep candidate ps)
 
--- result 8: "chosen page neither Full nor Freeing"
-abbrev pub closed : PageState → Bool
-closed Blank = false
-closed Corrupt = false
-closed Active = false
-closed Full = true
-closed Freeing = true
-
 -- 6 "greatest sequence above 0xFFFFFFFD"
 abbrev pub sequencesSpent : List Page → Bool
 sequencesSpent ps = ltb 0xFFFFFFFD (greatest sequence ps)
@@ -51,9 +41,8 @@ planTo ps s (some t) = cond (sequencesSpent ps) (Refuse SequencesSpent) (Move s 
 -- "If all 126 are Erased it is erased. Otherwise" a copy is needed; 4 "no page below 126 Written"
 unfoldable pub planWith : List Page → List ℕ → Option Page → Plan
 planWith ps fs none = Refuse AllWritten
-planWith ps fs (some x) =
-    cond (closed (x .seen .state)) (cond (eqb (x .seen .erased) 126) (Clear (x .sector)) (planTo ps (x .sector) (getLast? fs))) (Refuse NotReclaimable)
+planWith ps fs (some x) = cond (eqb (x .seen .erased) 126) (Clear (x .sector)) (planTo ps (x .sector) (getLast? fs))
 
--- "reclaim 1, 3, 4, 8, 5, 6; then steps": 3 "an Active page stands"
+-- "reclaim 1, 3, 4, .. 5, 6; then steps", without the 8 (specs/Closed): 3 "an Active page stands"
 unfoldable pub plan : List Page → List ℕ → Plan
 plan ps fs = cond (some-of activePage ps) (Refuse ActiveStands) (planWith ps fs (chosen ps))

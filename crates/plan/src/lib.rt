@@ -1,6 +1,5 @@
 // What a reclaim is to do, worked out from the page table alone.
 use answer::Answer;
-use page::PageState;
 use table::Page;
 use table::Sought;
 use table::Table;
@@ -10,7 +9,7 @@ ghost use mathlib.Core.List.{getLast?};
 ghost use Rattle.lists.specs.Lists.{greatest};
 ghost use Rattle.table.specs.Table.{sequence, listed, freed, Sized};
 ghost use Rattle.table.specs.Sought.{soughtOf, betterAmong};
-ghost use Rattle.plan.specs.Plan.{points, candidate, noFewerPoints, closed, chosen, planTo, plan};
+ghost use Rattle.plan.specs.Plan.{points, candidate, noFewerPoints, chosen, planTo, plan};
 ghost use Rattle.plan.specs.Choosing.{targetOf};
 
 // A page's entries, as its record counts them.
@@ -88,18 +87,6 @@ fn choose(table: Table, top: u32) -> Sought
     best
 }
 
-fn is_closed(state: PageState) -> bool
-    ensures { λ r. ⌜ r ≡ closed state ⌝ }
-{
-    match state {
-        PageState::Blank => false,
-        PageState::Corrupt => false,
-        PageState::Active => false,
-        PageState::Full => true,
-        PageState::Freeing => true,
-    }
-}
-
 // "the last is taken first"
 fn last_free(table: Table) -> Target
     requires { ⌜ Sized table ⌝ }
@@ -138,10 +125,6 @@ pub fn plan_of(table: Table) -> Plan
         return Plan::Refuse(Answer::AllWritten);
     };
     let seen = p.seen;
-    let state = seen.state;
-    if !is_closed(state) {
-        return Plan::Refuse(Answer::NotReclaimable);
-    }
     if seen.erased == ALL_ENTRIES {
         return Plan::Clear(p.sector as usize);
     }

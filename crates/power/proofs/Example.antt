@@ -31,6 +31,7 @@ use Rattle.duplicates.specs.Duplicates.{outdated, onceEach, groups, duplicateSt
 use Rattle.stages.specs.Stages.{lastStages, afterOrder, recovering, tooHigh, accepted}
 use Rattle.plan.specs.declared.Plan.the-variants.{Move}
 use Rattle.plan.specs.Plan.{points, chosen, planTo, planWith, plan}
+use Rattle.plan.specs.Occurs.{Met}
 use Rattle.reclaim.specs.Reclaim.{reclaiming}
 use Rattle.power.specs.Demand3.{Premises, Store, stored, total}
 use Rattle.power.specs.Example.{first, second, third, page, image, Example}
@@ -238,8 +239,12 @@ plan-is : plan (pages image) (frees image) ≡ Move 1 0 8
 unfolding plan planWith planTo chosen best better keep some-of greatest points
 plan-is = rw (pages-are, frees-are)
 
+chooses : Met (pages image) full
+unfolding some-of chosen best better keep greatest points
+chooses = record { none-free = rw pages-are; none-active = rw pages-are; choice = rw pages-are }
+
 pub example : Example
 unfolding reclaiming
 example =
     let s : Store image = record { premises = premises; unchanged = unchanged } in
-    record { store = s; unsettled = unsettled image s; moves = rw (whole, plan-is) }
+    record { store = s; unsettled = unsettled image s; moves = rw (whole, plan-is); chooses = (full, chooses) }

@@ -19,9 +19,9 @@ use Rattle.page.proofs.Tests.{both-is, neither-first, neither-second}
 use Rattle.flash.specs.Step.{sector}
 use Rattle.flash.proofs.Order.{le-or-gt}
 use Rattle.lists.proofs.Sums.{sum-ge}
-use Rattle.lists.proofs.Search.{every-of, some-is}
+use Rattle.lists.proofs.Search.{every-of, none-of}
 use Rattle.lists.proofs.Maps.{flatMap-in, map-in}
-use Rattle.lists.proofs.Member.{_∈_, refuted, true≢false}
+use Rattle.lists.proofs.Member.{_∈_, true≢false}
 use Rattle.table.specs.declared.Page.{Page}
 use Rattle.table.specs.Table.{active, activePage, freeing, freeingPage, itemsIn, pageAt, pages, sectorsOf, sequence}
 use Rattle.table.proofs.Scanning.{record-state}
@@ -43,7 +43,7 @@ module _ (L : List ℕ) (S : Premises L) where
   n = sectorsOf L
 
   neither : (p : Page) → p ∈ pages L → activePage p || freeingPage p ≡ false
-  neither p m = refuted (activePage p || freeingPage p) (λ e. true≢false (some-is (λ (z : Page). activePage z || freeingPage z) (pages L) p m e) (S .active-or-freeing))
+  neither p m = none-of (λ (z : Page). activePage z || freeingPage z) (pages L) (S .active-or-freeing) p m
 
   -- no page is Active, and none is Freeing
   pub no-active : (p : Page) → p ∈ pages L → activePage p ≡ false

@@ -22,15 +22,16 @@ use Rattle.item.specs.Mark.{markFreeing, pageState}
 use Rattle.relocate.specs.Move.{moving}
 use Rattle.lists.specs.Lists.{greatest, some-of}
 use Rattle.lists.proofs.Sums.{greatest-ge, greatest-lt}
-use Rattle.lists.proofs.Search.{best-in, every-of, keep-in, last-in}
+use Rattle.lists.proofs.Search.{every-of, last-in}
 use Rattle.lists.proofs.Member.{_∈_, true≢false}
 use Rattle.table.specs.declared.Page.{Page}
 use Rattle.table.specs.Table.{activePage, frees, itemsIn, pageAt, pages, sectorsOf, sequence, wholeSectors}
 use Rattle.table.proofs.Pages.{frees-in, in-pages, page-erased, pages-in, listed-items}
 use Rattle.table.proofs.Records.{record-sequence}
-use Rattle.answer.specs.declared.Answer.the-variants.{ActiveStands, NotReclaimable, SequencesSpent}
+use Rattle.answer.specs.declared.Answer.the-variants.{ActiveStands, SequencesSpent}
 use Rattle.plan.specs.declared.Plan.the-variants.{Clear, Move, Refuse}
-use Rattle.plan.specs.Plan.{candidate, chosen, closed, next, plan, planTo, planWith}
+use Rattle.plan.specs.Plan.{chosen, next, plan, planTo, planWith}
+use Rattle.plan.proofs.Chosen.{chosen-in}
 use Rattle.reclaim.specs.Reclaim.{planSteps, reclaiming}
 use Rattle.power.specs.Demand3.{Premises}
 use Rattle.power.proofs.Runs.{run-one}
@@ -133,17 +134,11 @@ module _ (L : List ℕ) (S : Premises L) where
   with-reach : (c s : ℕ) (r : PageRecord) → s < n → isFree (stateOf (sector s L)) ≡ false → r .erased ≡ countState (sector s L) 0
       → Reach (run (take c (planSteps L (planWith (pages L) (frees L) (some (record { sector = s; seen = r }))))) L)
   unfolding planWith planSteps
-  with-reach c s r h p k = go (closed (r .state)) (eqb (r .erased) 126) refl
+  with-reach c s r h p k = go (eqb (r .erased) 126) refl
     where
-      go : (a b : Bool) → eqb (r .erased) 126 ≡ b
-          → Reach (run (take c (planSteps L (cond a (cond b (Clear s) (planTo (pages L) s (getLast? (frees L)))) (Refuse NotReclaimable)))) L)
-      go true true q = erased-reach s h p (sym k ∙ eqb-true _ 126 q) c
-      go true false q = to-reach s h p c (getLast? (frees L)) refl
-      go false b q = nothing c
-
-  chosen-in : (x : Page) → chosen (pages L) ≡ some x → x ∈ pages L
-  unfolding chosen
-  chosen-in x e = keep-in candidate (pages L) x (best-in _ _ x e) .0
+      go : (b : Bool) → eqb (r .erased) 126 ≡ b → Reach (run (take c (planSteps L (cond b (Clear s) (planTo (pages L) s (getLast? (frees L)))))) L)
+      go true q = erased-reach s h p (sym k ∙ eqb-true _ 126 q) c
+      go false q = to-reach s h p c (getLast? (frees L)) refl
 
   -- wherever it is cut
   pub reach : (c : ℕ) → Reach (run (take c (reclaiming L)) L)
@@ -153,7 +148,7 @@ module _ (L : List ℕ) (S : Premises L) where
       page : (o : Option Page) → chosen (pages L) ≡ o → Reach (run (take c (planSteps L (planWith (pages L) (frees L) o))) L)
       page none k = unfold planWith in nothing c
       page (some x) k =
-          let m = chosen-in x k in
+          let m = chosen-in (pages L) k .0 in
           let r = pages-in L x m in
           with-reach c (x .sector) (x .seen) (r .1) (r .2) (page-erased L x m)
 

@@ -1,8 +1,6 @@
--- Within the premises of demand 3 reclaim is not refused: no page is Active, one is below 126, it is Full, a sector is free, sequences are left.
--- Assumes nothing.
-use mathlib.Core.Path.{_≡_, refl, ap, _∙_}
+-- Within the premises of demand 3 reclaim is not refused: no page is Active, one is below 126, a sector is free, sequences are left. Assumes nothing.
+use mathlib.Core.Path.{_≡_, refl, _∙_}
 use mathlib.Core.Bool.{Bool, true, false, cond, not, _&&_}
-use mathlib.Core.Option.{some}
 use mathlib.Core.List.{List, [], _∷_}
 use Prim.Native.Nat.{ℕ, _≤_, _<_}
 use native.Mathlib.Omega.{arith}
@@ -10,25 +8,23 @@ use lib.Dec.{eqb, ltb}
 use lib.ListN.{length}
 use borrow.Author.Tests.{ltb-true, le-ltb}
 use Rattle.page.proofs.Tests.{both-first}
-use Rattle.flash.specs.Step.{sector}
-use Rattle.lists.specs.Lists.{greatest, keep}
-use Rattle.lists.proofs.Member.{_∈_}
-use Rattle.lists.proofs.Search.{best-some, every-of, in-keep, keep-in, some-in, some-none}
+use Rattle.lists.specs.Lists.{greatest}
+use Rattle.lists.proofs.Search.{every-of, some-none}
 use Rattle.lists.proofs.Sums.{greatest-lt}
 use Rattle.table.specs.declared.Page.{Page}
 use Rattle.table.specs.Table.{activePage, frees, pages, sequence, wholeSectors}
-use Rattle.table.proofs.Pages.{page-state, pages-in}
 use Rattle.answer.specs.declared.Answer.{Answer}
 use Rattle.answer.specs.Answer.{numberOf, refusal}
 use Rattle.answer.specs.Told.{numberIn}
 use Rattle.stages.specs.Stages.{accepted, tooHigh}
-use Rattle.plan.specs.Plan.{candidate, chosen, closed, next, noFewerPoints, sequencesSpent}
+use Rattle.plan.specs.Plan.{sequencesSpent}
+use Rattle.plan.proofs.Chosen.{some-chosen}
 use Rattle.reclaim.specs.Reclaim.{reclaiming}
 use Rattle.reclaim.specs.Promise.{noSectorFree, reclaimTable}
 use Rattle.reclaim.proofs.Ends.{reclaim-ended}
 use Rattle.power.specs.Demand3.{Premises}
 use Rattle.power.specs.Calls.{Reclaims}
-use Rattle.power.proofs.Premises.{good, no-active}
+use Rattle.power.proofs.Premises.{no-active}
 
 module _ (l : List ℕ) (S : Premises l) (n : ℕ) where
   -- "below 0xFFFFFFF0"
@@ -43,28 +39,14 @@ module _ (l : List ℕ) (S : Premises l) (n : ℕ) where
       go [] h = absurd (omega arith)
       go (f ∷ fs) h = refl
 
-  -- "a page with fewer than 126 written entries"
-  choice : (x : Page) × (chosen (pages l) ≡ some x) × (x ∈ pages l)
-  unfolding chosen
-  choice =
-      let c = some-in candidate (pages l) (S .below-126) in
-      let b = best-some (noFewerPoints (next (pages l))) (keep candidate (pages l)) (c .0) (in-keep candidate (pages l) (c .0) (c .1) (c .2)) in
-      (b .0, b .1, keep-in candidate (pages l) (b .0) (b .2) .0)
-
-  is-closed : (x : Page) → x ∈ pages l → closed (x .seen .state) ≡ true
-  is-closed x m =
-      let r = pages-in l x m in
-      let full = good l S (x .sector) (r .1) (r .2) .fulls (x .sector) (r .1) (r .2) in
-      ap closed (page-state l x m ∙ full)
-
   -- no refusal's condition holds
   numbered : _≡_ {A = ℕ} (numberIn (reclaimTable l n)) (cond (ltb n (length (reclaiming l))) 7 0)
   unfolding reclaimTable numberIn accepted
   numbered =
-      let x = choice in
+      let x = some-chosen (pages l) (S .below-126) in
       let whole = both-first (wholeSectors l) (not (tooHigh (pages l))) (S .accepts) in
       let spent : sequencesSpent (pages l) ≡ false = le-ltb 0xFFFFFFFD (greatest sequence (pages l)) (omega (arith, sequences-left)) in
-      rw (whole, some-none activePage (pages l) (no-active l S), S .below-126, x .1, is-closed (x .0) (x .2), some-free, spent) (go (eqb (x .0 .seen .erased) 126))
+      rw (whole, some-none activePage (pages l) (no-active l S), S .below-126, x .1, some-free, spent) (go (eqb (x .0 .seen .erased) 126))
     where
       end : ℕ
       end = cond (ltb n (length (reclaiming l))) 7 0

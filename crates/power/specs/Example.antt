@@ -4,7 +4,10 @@ use mathlib.Core.Path.{_≡_}
 use mathlib.Core.List.{List, [], _∷_, _++_}
 use Prim.Native.Nat.{ℕ}
 use lib.ListN.{replicate}
+use Rattle.table.specs.declared.Page.{Page}
+use Rattle.table.specs.Table.{pages}
 use Rattle.plan.specs.declared.Plan.the-variants.{Move}
+use Rattle.plan.specs.Occurs.{Met}
 use Rattle.reclaim.specs.Reclaim.{planSteps, reclaiming}
 use Rattle.power.specs.Demand3.{Store}
 use Rattle.power.specs.General.{Unsettled}
@@ -42,3 +45,5 @@ pub record Example : Type 0 where
   pub store : Store image
   pub unsettled : Unsettled image
   pub moves : reclaiming image ≡ planSteps image (Move 1 0 8)
+  -- no page is Active and one is chosen, as document 02, No. 12, has it
+  pub chooses : (x : Page) × Met (pages image) x

@@ -6,7 +6,7 @@ use mathlib.Core.List.{List, getLast?}
 use Prim.Native.Nat.{ℕ}
 use lib.Dec.{eqb, ltb}
 use lib.ListN.{length}
-use Rattle.answer.specs.declared.Answer.the-variants.{ActiveStands, SequencesSpent, NotReclaimable}
+use Rattle.answer.specs.declared.Answer.the-variants.{ActiveStands, SequencesSpent}
 use Rattle.answer.specs.Answer.{numberOf, refusal}
 use Rattle.answer.specs.Told.{numberIn}
 use Rattle.lists.specs.Lists.{some-of}
@@ -14,7 +14,7 @@ use Rattle.table.specs.declared.Page.{Page}
 use Rattle.table.specs.Table.{wholeSectors, pages, frees, activePage}
 use Rattle.plan.specs.declared.Plan.{Plan}
 use Rattle.plan.specs.declared.Plan.the-variants.{Refuse, Clear, Move}
-use Rattle.plan.specs.Plan.{next, closed, chosen, sequencesSpent, planTo, planWith, plan}
+use Rattle.plan.specs.Plan.{next, chosen, sequencesSpent, planTo, planWith, plan}
 use Rattle.reclaim.specs.Reclaim.{reclaiming}
 use Rattle.reclaim.specs.Promise.{reclaimTable}
 use Rattle.reclaim.proofs.Choice.{chosen-none, chosen-some, last-none, last-some}
@@ -27,27 +27,23 @@ module _ (l : List ℕ) (n : ℕ) where
   Numbered (Move s t q) = numberIn (reclaimTable l n) ≡ cond (ltb n (length (reclaiming l))) 7 0
 
   module _ (w : wholeSectors l ≡ true) (none-active : some-of activePage (pages l) ≡ false) where
-    numbered-to : (x : Page) → chosen (pages l) ≡ some x → closed (x .seen .state) ≡ true → eqb (x .seen .erased) 126 ≡ false → (o : Option ℕ) → getLast? (frees l) ≡ o → Numbered (planTo (pages l) (x .sector) o)
+    numbered-to : (x : Page) → chosen (pages l) ≡ some x → eqb (x .seen .erased) 126 ≡ false → (o : Option ℕ) → getLast? (frees l) ≡ o → Numbered (planTo (pages l) (x .sector) o)
     unfolding planTo reclaimTable numberIn
-    numbered-to x e k c none f = (refl, rw (w, none-active, chosen-some (pages l) e, e, k, c, last-none (frees l) f))
-    numbered-to x e k c (some t) f = go (sequencesSpent (pages l)) refl
+    numbered-to x e c none f = (refl, rw (w, none-active, chosen-some (pages l) e, e, c, last-none (frees l) f))
+    numbered-to x e c (some t) f = go (sequencesSpent (pages l)) refl
       where
         go : (b : Bool) → sequencesSpent (pages l) ≡ b → Numbered (cond b (Refuse SequencesSpent) (Move (x .sector) t (next (pages l))))
-        go true s = (refl, rw (w, none-active, chosen-some (pages l) e, e, k, c, last-some (frees l) f, s))
-        go false s = rw (w, none-active, chosen-some (pages l) e, e, k, c, last-some (frees l) f, s)
+        go true s = (refl, rw (w, none-active, chosen-some (pages l) e, e, c, last-some (frees l) f, s))
+        go false s = rw (w, none-active, chosen-some (pages l) e, e, c, last-some (frees l) f, s)
 
     numbered-with : (o : Option Page) → chosen (pages l) ≡ o → Numbered (planWith (pages l) (frees l) o)
     unfolding planWith reclaimTable numberIn
     numbered-with none e = (refl, rw (w, none-active, chosen-none (pages l) e))
-    numbered-with (some x) e = go (closed (x .seen .state)) refl
+    numbered-with (some x) e = go (eqb (x .seen .erased) 126) refl
       where
-        erased : closed (x .seen .state) ≡ true → (b : Bool) → eqb (x .seen .erased) 126 ≡ b → Numbered (cond b (Clear (x .sector)) (planTo (pages l) (x .sector) (getLast? (frees l))))
-        erased k true c = rw (w, none-active, chosen-some (pages l) e, e, k, c)
-        erased k false c = numbered-to x e k c (getLast? (frees l)) refl
-
-        go : (b : Bool) → closed (x .seen .state) ≡ b → Numbered (cond b (cond (eqb (x .seen .erased) 126) (Clear (x .sector)) (planTo (pages l) (x .sector) (getLast? (frees l)))) (Refuse NotReclaimable))
-        go true k = erased k (eqb (x .seen .erased) 126) refl
-        go false k = (refl, rw (w, none-active, chosen-some (pages l) e, e, k))
+        go : (b : Bool) → eqb (x .seen .erased) 126 ≡ b → Numbered (cond b (Clear (x .sector)) (planTo (pages l) (x .sector) (getLast? (frees l))))
+        go true c = rw (w, none-active, chosen-some (pages l) e, e, c)
+        go false c = numbered-to x e c (getLast? (frees l)) refl
 
   pub numbered : wholeSectors l ≡ true → Numbered (plan (pages l) (frees l))
   unfolding plan reclaimTable numberIn

@@ -4,26 +4,20 @@ use mathlib.Core.Bool.{true, false}
 use mathlib.Core.Option.{none, some}
 use mathlib.Core.List.{List, [], _∷_, getLast?}
 use Prim.Native.Nat.{ℕ}
-use Rattle.lists.specs.Lists.{keep, some-of}
+use Rattle.lists.specs.Lists.{some-of}
 use Rattle.lists.proofs.Member.{true≢false, none≢some, refuted}
-use Rattle.lists.proofs.Search.{keep-in, in-keep, some-is, some-in, best-in, best-some}
+use Rattle.lists.proofs.Search.{some-is}
 use Rattle.table.specs.declared.Page.{Page}
-use Rattle.plan.specs.Plan.{candidate, next, noFewerPoints, chosen}
+use Rattle.plan.specs.Plan.{candidate, chosen}
+use Rattle.plan.proofs.Chosen.{chosen-in, some-chosen}
 use Rattle.reclaim.specs.Promise.{noSectorFree}
 
 module _ (ps : List Page) where
   pub chosen-none : chosen ps ≡ none → some-of candidate ps ≡ false
-  unfolding chosen
-  chosen-none e =
-      refuted (some-of candidate ps) (λ h.
-      let c = some-in candidate ps h in
-      none≢some e (best-some (noFewerPoints (next ps)) (keep candidate ps) (c .0) (in-keep candidate ps (c .0) (c .1) (c .2)) .1))
+  chosen-none e = refuted (some-of candidate ps) (λ h. none≢some e (some-chosen ps h .1))
 
   pub chosen-some : {x : Page} → chosen ps ≡ some x → some-of candidate ps ≡ true
-  unfolding chosen
-  chosen-some {x} e =
-      let c = keep-in candidate ps x (best-in (noFewerPoints (next ps)) (keep candidate ps) x e) in
-      some-is candidate ps x (c .0) (c .1)
+  chosen-some {x} e = let c = chosen-in ps e in some-is candidate ps x (c .0) (c .1)
 
 pub last-none : (fs : List ℕ) → getLast? fs ≡ none → noSectorFree fs ≡ true
 last-none [] e = refl

@@ -16,10 +16,10 @@ use Rattle.lists.specs.Lists.{some-of, greatest}
 use Rattle.table.specs.Table.{wholeSectors, pages, frees, sequence, activePage}
 use Rattle.plan.specs.Plan.{candidate, sequencesSpent}
 use Rattle.reclaim.specs.Reclaim.{reclaiming}
-use Rattle.reclaim.specs.Promise.{notReclaimable, copyNeeded, noSectorFree, reclaimTable, ReclaimPromise}
+use Rattle.reclaim.specs.Promise.{copyNeeded, noSectorFree, reclaimTable, ReclaimPromise}
 use Rattle.reclaim.proofs.Choice.{none-free}
 
--- of "1, 3, 4, 8, 5, 6; then steps" no condition before that of the number k holds
+-- of "1, 3, 4, .. 5, 6; then steps" no condition before that of the number k holds
 abbrev pub Passed : List ℕ → ℕ → ℕ → Type 0
 Passed l n k = NoneHolds (before k (reclaimTable l n))
 
@@ -38,11 +38,6 @@ module _ {l : List ℕ} {n : ℕ} {m : List ℕ} {r : Answer} (p : ReclaimPromis
   pub number-4 : (numberOf r ≡ 4) ↔ (Passed l n 4 × (some-of candidate (pages l) ≡ false))
   unfolding reclaimTable before conditionOf once absent
   number-4 = let g = given (p .answer) 4 tt in (λ e. let h = g .0 e in (h .0, not-true (some-of candidate (pages l)) (h .1)), λ e. g .1 (e .0, rw (e .1)))
-
-  -- 8 exactly when the page chosen is neither Full nor Freeing
-  pub number-8 : (numberOf r ≡ 8) ↔ (Passed l n 8 × (notReclaimable (pages l) ≡ true))
-  unfolding reclaimTable before conditionOf once absent
-  number-8 = given (p .answer) 8 tt
 
   -- 5 exactly when a copy is needed and no sector is free
   pub number-5 : (numberOf r ≡ 5) ↔ (Passed l n 5 × (copyNeeded (pages l) ≡ true) × (frees l ≡ []))
@@ -75,8 +70,8 @@ module _ {l : List ℕ} {n : ℕ} {m : List ℕ} {r : Answer} (p : ReclaimPromis
   pub number-0 : (numberOf r ≡ 0) ↔ (Passed l n 7 × (length (reclaiming l) ≤ n))
   unfolding reclaimTable before positive
   number-0 = let g = given-last (p .answer) tt in (
-    λ e. let h = g .0 e in ((h .0, (h .1 .0, (h .1 .1 .0, (h .1 .1 .1 .0, (h .1 .1 .1 .1 .0, (h .1 .1 .1 .1 .1 .0, tt)))))), ltb-false n (length (reclaiming l)) (h .1 .1 .1 .1 .1 .1 .0)),
-    λ e. let h = e .0 in g .1 (h .0, (h .1 .0, (h .1 .1 .0, (h .1 .1 .1 .0, (h .1 .1 .1 .1 .0, (h .1 .1 .1 .1 .1 .0, (le-ltb n (length (reclaiming l)) (e .1), tt))))))),
+    λ e. let h = g .0 e in ((h .0, (h .1 .0, (h .1 .1 .0, (h .1 .1 .1 .0, (h .1 .1 .1 .1 .0, tt))))), ltb-false n (length (reclaiming l)) (h .1 .1 .1 .1 .1 .0)),
+    λ e. let h = e .0 in g .1 (h .0, (h .1 .0, (h .1 .1 .0, (h .1 .1 .1 .0, (h .1 .1 .1 .1 .0, (le-ltb n (length (reclaiming l)) (e .1), tt)))))),
   )
 
   -- 2 is recovery's

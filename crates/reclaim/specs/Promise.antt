@@ -15,17 +15,13 @@ use Rattle.answer.specs.Told.{Line, _when_, Told}
 use Rattle.lists.specs.Lists.{some-of}
 use Rattle.table.specs.declared.Page.{Page}
 use Rattle.table.specs.Table.{wholeSectors, pages, frees, activePage}
-use Rattle.plan.specs.Plan.{candidate, chosen, closed, sequencesSpent}
+use Rattle.plan.specs.Plan.{candidate, chosen, sequencesSpent}
 use Rattle.reclaim.specs.Reclaim.{reclaiming}
 
 -- what holds of the page chosen
 abbrev pub ofChosen : (Page → Bool) → Option Page → Bool
 ofChosen f none = false
 ofChosen f (some x) = f x
-
--- "chosen page neither Full nor Freeing"
-abbrev pub notReclaimable : List Page → Bool
-notReclaimable ps = ofChosen (λ (x : Page). not (closed (x .seen .state))) (chosen ps)
 
 -- "a copy is needed": "If all 126 are Erased it is erased. Otherwise" the page is copied
 abbrev pub copyNeeded : List Page → Bool
@@ -36,13 +32,12 @@ abbrev pub noSectorFree : List ℕ → Bool
 noSectorFree [] = true
 noSectorFree (f ∷ fs) = false
 
--- "reclaim 1, 3, 4, 8, 5, 6; then steps"
+-- "reclaim 1, 3, 4, .. 5, 6; then steps", without the 8 (document 02, No. 12)
 unfoldable pub reclaimTable : List ℕ → ℕ → List Line
 reclaimTable l n =
     1 when not (wholeSectors l) ∷  -- "image not 2 to 16 whole sectors"
     3 when some-of activePage (pages l) ∷  -- "reclaim: an Active page stands"
     4 when not (some-of candidate (pages l)) ∷  -- "reclaim: no page below 126 Written"
-    8 when notReclaimable (pages l) ∷  -- "reclaim: chosen page neither Full nor Freeing"
     5 when (copyNeeded (pages l) && noSectorFree (frees l)) ∷  -- "reclaim: a copy is needed, no sector free"
     6 when (copyNeeded (pages l) && sequencesSpent (pages l)) ∷  -- "reclaim: a copy is needed, greatest sequence above 0xFFFFFFFD"
     7 when ltb n (length (reclaiming l)) ∷  -- "allowance used up before the end"

@@ -66,7 +66,7 @@ module _ (l : List ℕ) (lent n : ℕ) {r : Answer} (t : Told (recoverTable l le
     λ e. g .1 (e .0 .0, (e .0 .1 .0, (e .0 .1 .1 .0, (le-ltb n (length (called l lent)) (e .1), tt)))),
   )
 
-  -- 3, 4, 5 and 8 are reclaim's
+  -- 3, 4 and 5 are reclaim's
   pub number-3 : numberOf r ≡ 3 → ⊥
   unfolding recoverTable absent
   number-3 = not-given t 3 tt
@@ -78,7 +78,3 @@ module _ (l : List ℕ) (lent n : ℕ) {r : Answer} (t : Told (recoverTable l le
   pub number-5 : numberOf r ≡ 5 → ⊥
   unfolding recoverTable absent
   number-5 = not-given t 5 tt
-
-  pub number-8 : numberOf r ≡ 8 → ⊥
-  unfolding recoverTable absent
-  number-8 = not-given t 8 tt

@@ -1,11 +1,9 @@
 -- `plan::plan_of` meets its contract: each test that led to a return decides the definition's. Assumes nothing.
-use mathlib.Core.Path.{_≡_, sym, _∙_}
-use mathlib.Core.Bool.{true, false}
+use mathlib.Core.Path.{sym, _∙_}
 use borrow.Author.Tests.{eq-eqb, ne-eqb}
-use Rattle.page.proofs.Tests.{not-true, not-false}
 use Rattle.table.specs.Table.{listed}
 use Rattle.table.proofs.Seeking.{sought-found, sought-nothing}
-use Rattle.plan.specs.Plan.{closed, chosen, planWith, plan}
+use Rattle.plan.specs.Plan.{chosen, planWith, plan}
 use borrow.Author.Needs.{needs}
 use Rattle.plan.proofs.plan_of.Statement.{statement}
 use Rattle.plan.proofs.plan_of.Tie as tie
@@ -23,44 +21,28 @@ returns-2 c =
 returns-3 : tie.Need-returns-3
 unfolding plan planWith
 returns-3 c =
-    let at-p = c .before .before .before .before in
+    let at-if2 = c .before in
+    let at-p = at-if2 .before .before .before .before in
     let at-choose = at-p .before .before in
     let at-if1 = at-choose .before .before in
     let at-any-active = at-if1 .before in
     let entered = at-any-active .before in
     let p = at-p .p .given .0 .0 in
     let e = sought-found (chosen (listed (entered .args .table))) p (sym (at-p .p .given .1) ∙ at-choose .choose .ensures) in
-    let q : closed (p .seen .state) ≡ false = sym (c .before .is-closed .ensures) ∙ not-true (c .before .is-closed .result) (c .if2 .taken) in
-    rw (← at-any-active .any-active .ensures, at-if1 .if1 .left, e, q)
+    rw (← at-any-active .any-active .ensures, at-if1 .if1 .left, e, eq-eqb _ _ (at-if2 .if2 .taken))
 
 returns-4 : tie.Need-returns-4
 unfolding plan planWith
 returns-4 c =
-    let at-is-closed = c .before .before .before .before in
-    let at-p = at-is-closed .before .before .before in
+    let at-if2 = c .before .before in
+    let at-p = at-if2 .before .before .before .before in
     let at-choose = at-p .before .before in
     let at-if1 = at-choose .before .before in
     let at-any-active = at-if1 .before in
     let entered = at-any-active .before in
     let p = at-p .p .given .0 .0 in
     let e = sought-found (chosen (listed (entered .args .table))) p (sym (at-p .p .given .1) ∙ at-choose .choose .ensures) in
-    let q : closed (p .seen .state) ≡ true = sym (at-is-closed .is-closed .ensures) ∙ not-false (at-is-closed .is-closed .result) (c .before .before .before .if2 .left) in
-    rw (← at-any-active .any-active .ensures, at-if1 .if1 .left, e, q, eq-eqb _ _ (c .before .if3 .taken))
-
-returns-5 : tie.Need-returns-5
-unfolding plan planWith
-returns-5 c =
-    let at-if2 = c .before .before .before .before in
-    let at-is-closed = at-if2 .before in
-    let at-p = at-is-closed .before .before .before in
-    let at-choose = at-p .before .before in
-    let at-if1 = at-choose .before .before in
-    let at-any-active = at-if1 .before in
-    let entered = at-any-active .before in
-    let p = at-p .p .given .0 .0 in
-    let e = sought-found (chosen (listed (entered .args .table))) p (sym (at-p .p .given .1) ∙ at-choose .choose .ensures) in
-    let q : closed (p .seen .state) ≡ true = sym (at-is-closed .is-closed .ensures) ∙ not-false (at-is-closed .is-closed .result) (at-if2 .if2 .left) in
-    rw (c .plan-copy .ensures, ← at-any-active .any-active .ensures, at-if1 .if1 .left, e, q, ne-eqb _ _ (c .before .before .if3 .left))
+    rw (c .plan-copy .ensures, ← at-any-active .any-active .ensures, at-if1 .if1 .left, e, ne-eqb _ _ (at-if2 .if2 .left))
 
 pub plan-of-spec : {M : Type 1} → statement M
 plan-of-spec =
@@ -73,10 +55,8 @@ plan-of-spec =
     (λ c. search needs)
     (λ c. search needs)
     returns-2
-    (λ c κs. search needs)
+    (λ c. search needs)
     returns-3
     (λ c. search needs)
-    returns-4
-    (λ c. search needs)
     (λ c κs. search needs)
-    returns-5)
+    returns-4)
