@@ -43,4 +43,6 @@ occur =
     record {
       full = record { none-free = refl; none-active = refl; choice = refl };
       freeing = record { none-free = refl; none-active = refl; choice = refl };
+      active = refl;
+      blank = refl;
     }

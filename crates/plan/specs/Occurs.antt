@@ -1,10 +1,10 @@
--- Bridge: page lists that meet the premises of document 02, No. 12. Both states occur. Assumes nothing.
+-- Bridge: page lists that meet the premises of document 02, No. 12, and lists that show that each premise is needed. Assumes nothing.
 use mathlib.Core.Path.{_≡_}
 use mathlib.Core.Bool.{false}
 use mathlib.Core.Option.{some}
 use mathlib.Core.List.{List, [], _∷_}
 use Rattle.page.specs.declared.state.PageState.{PageState}
-use Rattle.page.specs.declared.state.PageState.the-variants.{Full, Freeing}
+use Rattle.page.specs.declared.state.PageState.the-variants.{Blank, Active, Full, Freeing}
 use Rattle.lists.specs.Lists.{some-of}
 use Rattle.table.specs.declared.Page.{Page}
 use Rattle.table.specs.Table.{activePage}
@@ -22,5 +22,9 @@ abbrev pub bare : PageState → Page
 bare s = record { sector = 0; seen = record { state = s; sequence = 0; written = 0; erased = 0; empty = 126; illegal = 0 } }
 
 pub record Occur : Type 0 where
+  -- both states occur
   pub full : Met (bare Full ∷ []) (bare Full)
   pub freeing : Met (bare Freeing ∷ []) (bare Freeing)
+  -- without the premises others would
+  pub active : chosen (bare Active ∷ []) ≡ some (bare Active)
+  pub blank : chosen (bare Blank ∷ []) ≡ some (bare Blank)
