@@ -25,6 +25,6 @@ pub record Occur : Type 0 where
   -- both states occur
   pub full : Met (bare Full ∷ []) (bare Full)
   pub freeing : Met (bare Freeing ∷ []) (bare Freeing)
-  -- without the premises others would
+  -- without the premises other states would: Active, and Blank
   pub active : chosen (bare Active ∷ []) ≡ some (bare Active)
   pub blank : chosen (bare Blank ∷ []) ≡ some (bare Blank)

@@ -45,5 +45,5 @@ pub record Example : Type 0 where
   pub store : Store image
   pub unsettled : Unsettled image
   pub moves : reclaiming image ≡ planSteps image (Move 1 0 8)
-  -- no page is Active and one is chosen, as document 02, No. 12, has it
+  -- it meets the premises of document 02, No. 12, too: no page is Active, and one is chosen
   pub chooses : (x : Page) × Met (pages image) x

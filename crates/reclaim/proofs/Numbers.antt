@@ -3,6 +3,7 @@
 use mathlib.Core.Path.{_≡_}
 use mathlib.Core.Logic.{_↔_}
 use mathlib.Core.Bool.{true, false}
+use mathlib.Core.Option.{some}
 use mathlib.Core.List.{List, []}
 use Prim.Native.Nat.{ℕ, _≤_, _<_}
 use lib.ListN.{length}
@@ -13,8 +14,11 @@ use Rattle.answer.specs.Answer.{numberOf}
 use Rattle.answer.specs.Told.{before, conditionOf, NoneHolds}
 use Rattle.answer.proofs.Numbers.{absent, once, positive, given, given-last, not-given}
 use Rattle.lists.specs.Lists.{some-of, greatest}
+use Rattle.table.specs.declared.Page.{Page}
 use Rattle.table.specs.Table.{wholeSectors, pages, frees, sequence, activePage}
-use Rattle.plan.specs.Plan.{candidate, sequencesSpent}
+use Rattle.plan.specs.Plan.{candidate, chosen, sequencesSpent}
+use Rattle.plan.specs.Closed.{Closed}
+use Rattle.plan.proofs.Closed.{image-closed}
 use Rattle.reclaim.specs.Reclaim.{reclaiming}
 use Rattle.reclaim.specs.Promise.{copyNeeded, noSectorFree, reclaimTable, ReclaimPromise}
 use Rattle.reclaim.proofs.Choice.{none-free}
@@ -22,6 +26,11 @@ use Rattle.reclaim.proofs.Choice.{none-free}
 -- of "1, 3, 4, .. 5, 6; then steps" no condition before that of the number k holds
 abbrev pub Passed : List ℕ → ℕ → ℕ → Type 0
 Passed l n k = NoneHolds (before k (reclaimTable l n))
+
+-- "the chosen page is always Full or Freeing once result 3 has been passed": the next number of the table is 4
+pub passed-closed : (l : List ℕ) (n : ℕ) → Passed l n 4 → (x : Page) → chosen (pages l) ≡ some x → Closed x
+unfolding reclaimTable before
+passed-closed l n h x e = image-closed l (h .1 .0) x e
 
 module _ {l : List ℕ} {n : ℕ} {m : List ℕ} {r : Answer} (p : ReclaimPromise l n m r) where
   -- 1 exactly when the image is not 2 to 16 whole sectors
