@@ -102,8 +102,8 @@ fn rules(run: &mut Run) -> Result<(), u8> {
         run.met(if lists.pages.is_empty() { Branch::ReclaimNoPage } else { Branch::ReclaimAllWritten });
         return Err(4);
     };
-    // "the chosen page is always Full or Freeing once result 3 has been passed": held to it in every case that is run.
-    assert!(matches!(chosen.state, State::Full | State::Freeing), "a page that is neither Full nor Freeing is chosen");
+    // "the chosen page is always Full or Freeing once result 3 has been passed": asked of every case that is run.
+    assert!(matches!(chosen.state, State::Full | State::Freeing), "chosen: neither Full nor Freeing");
     let way = way(run, &lists, &chosen)?;
     notes::choice(run, &lists.pages, &candidates, &chosen);
     free_page(run, &chosen, way);
