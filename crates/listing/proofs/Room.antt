@@ -22,8 +22,8 @@ use Rattle.flash.proofs.Small.{Small, run-small, part-small}
 use Rattle.table.specs.Table.{sectorsOf, wholeSectors}
 use Rattle.table.proofs.Whole.{whole-is}
 use Rattle.answer.specs.declared.Answer.{Answer}
-use Rattle.answer.specs.declared.Answer.the-variants.{Done, NotSectors, FewRecords, ActiveStands, AllWritten, NoFreeSector, SequencesSpent, Stopped}
 use Rattle.answer.specs.Answer.{numberOf, stepsOf, refusal}
+use Rattle.answer.proofs.Unused.{number-most}
 use Rattle.lists.proofs.Member.{true≢false}
 use Rattle.records.specs.Records.{recordsTo}
 use Rattle.recover.specs.Promise.{mostSteps, recoverAnswer, calling}
@@ -58,23 +58,13 @@ length-field name n = omega (arith, length-append name (space ++ decimal n))
 
 -- ---- the head
 
-number-most : (a : Answer) → numberOf a < 10
-number-most (Done n) = omega arith
-number-most NotSectors = omega arith
-number-most FewRecords = omega arith
-number-most ActiveStands = omega arith
-number-most AllWritten = omega arith
-number-most NoFreeSector = omega arith
-number-most SequencesSpent = omega arith
-number-most (Stopped s n) = omega arith
-
 head-most : (sectors : ℕ) (a : Answer) → sectors < 10 ^ 16 → stepsOf a ≤ mostSteps → length (head sectors a) ≤ 46
 unfolding head
 head-most sectors a h k =
     let result = field (word "result") (numberOf a) in
     let steps = field (word "steps") (stepsOf a) in
     omega
-    (arith, decimal-most sectors 15 h, decimal-most (numberOf a) 0 (number-most a), decimal-most (stepsOf a) 4 (omega (arith, k)), length-field (word "result") (numberOf a), length-field (word "steps") (stepsOf a), length-append (decimal sectors) (result ++ (steps ++ newline)), length-append result (steps ++ newline), length-append steps newline)
+    (arith, decimal-most sectors 15 h, decimal-most (numberOf a) 0 (omega (arith, number-most a)), decimal-most (stepsOf a) 4 (omega (arith, k)), length-field (word "result") (numberOf a), length-field (word "steps") (stepsOf a), length-append (decimal sectors) (result ++ (steps ++ newline)), length-append result (steps ++ newline), length-append steps newline)
 
 -- ---- a line
 

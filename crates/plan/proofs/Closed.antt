@@ -18,7 +18,7 @@ use Rattle.plan.specs.Occurs.{Occur}
 use Rattle.plan.proofs.Chosen.{chosen-in}
 
 -- of the five states two are neither free nor Active
-neither-closed : (s : PageState) → isFree s ≡ false → active s ≡ false → (s ≡ Full) ⊎ (s ≡ Freeing)
+pub neither-closed : (s : PageState) → isFree s ≡ false → active s ≡ false → (s ≡ Full) ⊎ (s ≡ Freeing)
 neither-closed Blank f a = absurd (true≢false refl f)
 neither-closed Corrupt f a = absurd (true≢false refl f)
 neither-closed Active f a = absurd (true≢false refl a)

@@ -5,6 +5,7 @@ use mathlib.Core.Option.{some}
 use mathlib.Core.List.{List, [], _∷_}
 use Rattle.page.specs.declared.state.PageState.{PageState}
 use Rattle.page.specs.declared.state.PageState.the-variants.{Blank, Active, Full, Freeing}
+use Rattle.page.specs.Record.{freeRecord}
 use Rattle.lists.specs.Lists.{some-of}
 use Rattle.table.specs.declared.Page.{Page}
 use Rattle.table.specs.Table.{activePage}
@@ -21,10 +22,14 @@ pub record Met (ps : List Page) (x : Page) : Type 0 where
 abbrev pub bare : PageState → Page
 bare s = record { sector = 0; seen = record { state = s; sequence = 0; written = 0; erased = 0; empty = 126; illegal = 0 } }
 
+-- a Blank sector with its record, were it listed
+abbrev pub blankSector : Page
+blankSector = record { sector = 0; seen = freeRecord Blank }
+
 pub record Occur : Type 0 where
   -- both states occur
   pub full : Met (bare Full ∷ []) (bare Full)
   pub freeing : Met (bare Freeing ∷ []) (bare Freeing)
   -- without the premises other states would: Active, and Blank
   pub active : chosen (bare Active ∷ []) ≡ some (bare Active)
-  pub blank : chosen (bare Blank ∷ []) ≡ some (bare Blank)
+  pub blank : chosen (blankSector ∷ []) ≡ some blankSector

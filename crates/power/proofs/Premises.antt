@@ -1,5 +1,5 @@
 -- What the premises of demand 3 and of its general form give: every page is Full, and the items are tidy. Assumes nothing.
-use mathlib.Core.Path.{_≡_, ap, refl}
+use mathlib.Core.Path.{_≡_, ap}
 use mathlib.Core.Logic.{⊎-elim}
 use mathlib.Core.Bool.{_&&_, _||_, false, true}
 use mathlib.Core.List.{List}
@@ -10,8 +10,7 @@ use lib.ListN.{getD}
 use borrow.Author.Tests.{eq-eqb, ltb-true}
 use Rattle.entry.specs.States.{one}
 use Rattle.entry.specs.Fields.{entryAt, namespaceOf, spanOf}
-use Rattle.page.specs.declared.state.PageState.{PageState}
-use Rattle.page.specs.declared.state.PageState.the-variants.{Active, Blank, Corrupt, Freeing, Full}
+use Rattle.page.specs.declared.state.PageState.the-variants.{Full}
 use Rattle.page.specs.Record.{recordOf}
 use Rattle.page.specs.State.{isFree, sequenceOf, stateOf}
 use Rattle.page.specs.Walk.{Laid}
@@ -23,13 +22,14 @@ use Rattle.lists.proofs.Search.{every-of, none-of}
 use Rattle.lists.proofs.Maps.{flatMap-in, map-in}
 use Rattle.lists.proofs.Member.{_∈_, true≢false}
 use Rattle.table.specs.declared.Page.{Page}
-use Rattle.table.specs.Table.{active, activePage, freeing, freeingPage, itemsIn, pageAt, pages, sectorsOf, sequence}
+use Rattle.table.specs.Table.{activePage, freeing, freeingPage, itemsIn, pageAt, pages, sectorsOf, sequence}
 use Rattle.table.proofs.Scanning.{record-state}
 use Rattle.table.proofs.Pages.{in-pages}
 use Rattle.table.proofs.Records.{record-sequence}
 use Rattle.found.specs.Found.{Found, found, foundOn, isPart}
 use Rattle.found.proofs.Keys.{key-lt}
 use Rattle.flash.proofs.Small.{part-small}
+use Rattle.plan.proofs.Closed.{neither-closed}
 use Rattle.power.specs.Demand3.{Premises}
 use Rattle.power.proofs.State.{Good}
 use Rattle.power.proofs.Calm.{Tidy}
@@ -60,14 +60,7 @@ module _ (L : List ℕ) (S : Premises L) where
       (rw r at (no-active (pageAt u L) m), rw r at (no-freeing (pageAt u L) m)))
 
   is-full : (u : ℕ) → u < n → isFree (stateOf (sector u L)) ≡ false → stateOf (sector u L) ≡ Full
-  is-full u h f = go (stateOf (sector u L)) f (state-of u h .0) (state-of u h .1)
-    where
-      go : (M : PageState) → isFree M ≡ false → active M ≡ false → freeing M ≡ false → M ≡ Full
-      go Blank f a b = absurd (true≢false refl f)
-      go Corrupt f a b = absurd (true≢false refl f)
-      go Active f a b = absurd (true≢false refl a)
-      go Full f a b = refl
-      go Freeing f a b = absurd (true≢false refl b)
+  is-full u h f = let s = state-of u h in ⊎-elim (λ e. e) (λ e. absurd (true≢false (ap freeing e) (s .1))) (neither-closed (stateOf (sector u L)) f (s .0))
 
   below-at : (u : ℕ) → u < n → isFree (stateOf (sector u L)) ≡ false → sequenceOf (sector u L) < 0xFFFFFFF0
   below-at u h f =

@@ -10,11 +10,16 @@ use Rattle.plan.proofs.better_of.Tie as tie
 
 returns : tie.Need-returns
 unfolding betterAmong
-returns c = rw (le-ltb _ _ (c .if1 .taken))
+returns c =
+    let full : 126 ≤ c .before .before .before .args .p .seen .written = omega (arith, c .if1 .taken) in
+    rw (le-ltb _ _ full)
 
 returns-2 : tie.Need-returns-2
 unfolding betterAmong
-returns-2 c = rw (lt-ltb _ _ (c .before .before .if1 .left), c .enum-told .given .1)
+returns-2 c =
+    let at-if1 = c .before .before in
+    let below : at-if1 .before .before .before .args .p .seen .written < 126 = omega (arith, at-if1 .if1 .left) in
+    rw (lt-ltb _ _ below, c .enum-told .given .1)
 
 returns-3 : tie.Need-returns-3
 unfolding betterAmong
@@ -25,7 +30,8 @@ returns-3 c =
     let a = entered .args in
     let q = at-best .best .given .0 .0 in
     let fits : points (a .next) (a .p) ≤ points (a .next) q = omega (arith, c .before .before .points-of .ensures, c .before .points-of2 .ensures) in
-    rw (lt-ltb _ _ (at-if1 .if1 .left), at-best .best .given .1, le-leb _ _ fits)
+    let below : a .p .seen .written < 126 = omega (arith, at-if1 .if1 .left) in
+    rw (lt-ltb _ _ below, at-best .best .given .1, le-leb _ _ fits)
 
 returns-4 : tie.Need-returns-4
 unfolding betterAmong
@@ -36,7 +42,8 @@ returns-4 c =
     let a = entered .args in
     let q = at-best .best .given .0 .0 in
     let fits : points (a .next) q < points (a .next) (a .p) = omega (arith, c .before .before .points-of .ensures, c .before .points-of2 .ensures) in
-    rw (lt-ltb _ _ (at-if1 .if1 .left), at-best .best .given .1, lt-leb _ _ fits)
+    let below : a .p .seen .written < 126 = omega (arith, at-if1 .if1 .left) in
+    rw (lt-ltb _ _ below, at-best .best .given .1, lt-leb _ _ fits)
 
 pub better-of-spec : {M : Type 1} → statement M
 better-of-spec =
