@@ -1,9 +1,11 @@
-// Links the archive that `archive` wrote, and the crate's shared library where CRATE_RUNS names its folder.
+// Links the archives that `archive` and `bytewise` wrote, and the crate's shared library where CRATE_RUNS names its folder.
 fn main() {
     let root = std::env::var("CARGO_MANIFEST_DIR").expect("cargo sets it");
     println!("cargo:rustc-link-search=native={root}/target/archive");
-    println!("cargo:rustc-link-lib=static=timing");
-    println!("cargo:rerun-if-changed={root}/target/archive/libtiming.a");
+    for name in ["timing", "bytewise"] {
+        println!("cargo:rustc-link-lib=static={name}");
+        println!("cargo:rerun-if-changed={root}/target/archive/lib{name}.a");
+    }
     println!("cargo:rerun-if-env-changed=CRATE_RUNS");
     println!("cargo:rustc-check-cfg=cfg(with_crate)");
     if let Ok(folder) = std::env::var("CRATE_RUNS") {

@@ -161,6 +161,16 @@ pub fn settled_mixed() -> Vec<u8> {
     image(pages, 1)
 }
 
+/// 16 Blank sectors: a meter before its first start.
+pub fn blank_16() -> Vec<u8> {
+    image(Vec::new(), 16)
+}
+
+/// An Active page of 10 items and 15 Blank sectors: a young meter.
+pub fn blank_15() -> Vec<u8> {
+    image(vec![Page::new(ACTIVE, 1).numbers_to(10)], 15)
+}
+
 /// Where an item begins on a sector: Written entries of a page, payloads passed over. For images made here alone.
 pub fn items(sector: &[u8]) -> Vec<&[u8]> {
     let mut found = Vec::new();

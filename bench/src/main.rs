@@ -14,6 +14,7 @@ extern "C" {
     fn timing_reader(sector: *const u8, length: usize) -> usize;
     fn timing_reclaim(image: *mut u8, length: usize, allowance: u64) -> u64;
     fn timing_recover(image: *mut u8, length: usize, allowance: u64) -> u64;
+    fn bytewise_recover(image: *mut u8, length: usize, allowance: u64) -> u64;
 }
 
 type Call = fn(&mut [u8]) -> u64;
@@ -27,6 +28,11 @@ fn reclaim(image: &mut [u8]) -> u64 {
 
 fn recover(image: &mut [u8]) -> u64 {
     unsafe { timing_recover(image.as_mut_ptr(), image.len(), u64::MAX) }
+}
+
+/// The same with the test for Blank going byte by byte.
+fn recover_bytewise(image: &mut [u8]) -> u64 {
+    unsafe { bytewise_recover(image.as_mut_ptr(), image.len(), u64::MAX) }
 }
 
 #[cfg(with_crate)]
@@ -96,15 +102,6 @@ fn turns(mut turn: impl FnMut()) {
     }
 }
 
-/// A line of the table.
-#[derive(Default)]
-struct Line {
-    what: &'static str,
-    limit: Times,
-    ours: Times,
-    theirs: Times,
-}
-
 fn cell(time: Option<f64>, width: usize) -> String {
     time.map_or(format!("{:>width$}", "-"), |time| format!("{time:>width$.1}"))
 }
@@ -116,48 +113,50 @@ fn ratio(one: Option<f64>, other: Option<f64>) -> String {
     }
 }
 
-impl Line {
-    fn print(&self) {
-        let Line { what, limit, ours, theirs } = self;
-        println!(
-            "{what:<46}{}{}{}{}{}{}{}",
-            cell(limit.median(), 9),
-            cell(ours.median(), 9),
-            cell(ours.least(), 9),
-            cell(theirs.median(), 9),
-            cell(theirs.least(), 9),
-            ratio(ours.median(), theirs.median()),
-            ratio(ours.median(), limit.median()),
-        );
-    }
+/// A line of the table: medians, the least of ours and of the crate's, and how ours compare.
+fn print_line(what: &str, limit: &Times, ours: &Times, theirs: &Times) {
+    println!(
+        "{what:<46}{}{}{}{}{}{}{}",
+        cell(limit.median(), 9),
+        cell(ours.median(), 9),
+        cell(ours.least(), 9),
+        cell(theirs.median(), 9),
+        cell(theirs.least(), 9),
+        ratio(ours.median(), theirs.median()),
+        ratio(ours.median(), limit.median()),
+    );
 }
 
-/// Times a call of ours, if it is there, and the crate's, if it is there, each on a fresh copy of the image. Both have to
-/// make the same image by the same number of steps. `limit` is the CRC of the bytes that the rules make one read.
-fn time_calls(what: &'static str, image: &[u8], limit: impl Fn() -> u32, ours: Option<Call>, theirs: Option<Call>) {
-    let mut line = Line { what, ..Line::default() };
-    let mut made = Vec::new();
+/// Times calls of ours, each with a line of its own, and the crate's, if it is there. Each finds a fresh copy of the image in
+/// the same place, and all have to make the same image by the same number of steps. `limit` reads the bytes that the rules
+/// make one read.
+fn time_calls(image: &[u8], limit: impl Fn() -> u32, ours: &[(&'static str, Call)], theirs: Option<Call>) {
+    let mut limits = Times::default();
+    let mut calls: Vec<(Call, Times)> =
+        ours.iter().map(|(_, call)| *call).chain(theirs).map(|call| (call, Times::default())).collect();
+    let mut copy = image.to_vec();
+    let mut made = None;
     turns(|| {
-        line.limit.take(&limit);
-        made.clear();
-        for (call, times) in [(ours, &mut line.ours), (theirs, &mut line.theirs)] {
-            if let Some(call) = call {
-                let mut copy = image.to_vec();
-                let steps = times.take(|| call(&mut copy));
-                made.push((steps, copy));
-            }
+        limits.take(&limit);
+        for (call, times) in &mut calls {
+            copy.copy_from_slice(image);
+            let steps = times.take(|| call(&mut copy));
+            let first = made.get_or_insert_with(|| (steps, copy.clone()));
+            assert!(first.0 == steps && first.1 == copy, "{}: two answers", ours[0].0);
         }
     });
-    assert!(made.windows(2).all(|pair| pair[0] == pair[1]), "{what}: two answers");
-    line.print();
+    let theirs = theirs.and_then(|_| calls.pop()).map(|(_, times)| times).unwrap_or_default();
+    for ((what, _), (_, times)) in ours.iter().zip(calls) {
+        print_line(what, &limits, &times, &theirs);
+    }
 }
 
 /// The crate's defragment without its scan: an instance of it keeps what the scan found, where document 01 scans anew.
 fn time_defragment(image: &[u8]) {
     let Some(nanoseconds) = of_crate::DEFRAGMENT_TIME else { return };
-    let mut line = Line { what: "  the crate's part after its scan", ..Line::default() };
-    turns(|| line.theirs.0.push(nanoseconds(&mut image.to_vec()) as f64 / 1000.0));
-    line.print();
+    let mut theirs = Times::default();
+    turns(|| theirs.0.push(nanoseconds(&mut image.to_vec()) as f64 / 1000.0));
+    print_line("  the crate's part after its scan", &Times::default(), &Times::default(), &theirs);
 }
 
 fn headers_of(image: &[u8]) -> u32 {
@@ -181,6 +180,7 @@ fn measure_stacks() {
         ("reclaim: 16 sectors, 100 items copied", to_reclaim(14), reclaim as Call),
         ("recovery: clean, 16 sectors, 1,900 items", settled_16(), recover),
         ("recovery: clean, 16 sectors, mixed", settled_mixed(), recover),
+        ("recovery: 16 Blank sectors", blank_16(), recover),
         ("recovery: 16 sectors, a reclaim cut", half_reclaimed(), recover),
     ]) {
         let mut copy = image.to_vec();
@@ -206,7 +206,7 @@ fn time_reclaims() {
         let image = to_reclaim(full_pages);
         let source = &image[image.len() - 2 * SECTOR..image.len() - SECTOR];
         let limit = || headers_of(&image) ^ entries_of(source);
-        time_calls(what, &image, limit, Some(reclaim), of_crate::RECLAIM);
+        time_calls(&image, limit, &[(what, reclaim)], of_crate::RECLAIM);
         time_defragment(&image);
     }
 }
@@ -219,12 +219,32 @@ fn time_recoveries() {
         ("recovery: clean, 16 sectors, mixed", settled_mixed()),
     ] {
         let limit = || headers_of(&image) ^ entries_of(&image);
-        time_calls(what, &image, limit, Some(recover), of_crate::RECOVER);
+        time_calls(&image, limit, &[(what, recover)], of_crate::RECOVER);
     }
     // with something to repair: the crate's rules differ on these, so it is not run beside
     for (what, image) in to_repair() {
         let limit = || headers_of(&image) ^ entries_of(&image);
-        time_calls(what, &image, limit, Some(recover), None);
+        time_calls(&image, limit, &[(what, recover)], None);
+    }
+}
+
+/// How many groups of eight bytes are 0xFF, up to the first that differs: one pass over a Blank sector.
+fn ones_of(sector: &[u8]) -> u32 {
+    sector
+        .chunks_exact(8)
+        .take_while(|group| u64::from_le_bytes((*group).try_into().expect("eight")) == u64::MAX)
+        .count() as u32
+}
+
+/// Stores that are Blank but for their first pages. What the rules make one read is every byte of a Blank sector once.
+fn time_blanks() {
+    for (what, image, pages) in
+        [("recovery: 16 Blank sectors", blank_16(), 0), ("recovery: 16 sectors, 15 of them Blank", blank_15(), 1)]
+    {
+        let (used, blank) = image.split_at(pages * SECTOR);
+        let limit = || headers_of(used) ^ entries_of(used) ^ blank.chunks(SECTOR).map(ones_of).fold(0, |x, y| x ^ y);
+        let ours: [(&str, Call); 2] = [(what, recover), ("  ours with the test byte by byte", recover_bytewise)];
+        time_calls(&image, limit, &ours, of_crate::RECOVER);
     }
 }
 
@@ -236,12 +256,12 @@ fn time_readings() {
     ] {
         let all = || sectors.chunks(SECTOR).map(|s| unsafe { call(s.as_ptr(), s.len()) }).sum::<usize>();
         assert_eq!(all(), 2016);
-        let mut line = Line { what, ..Line::default() };
+        let (mut limit, mut ours) = (Times::default(), Times::default());
         turns(|| {
-            line.limit.take(|| entries_of(&sectors));
-            line.ours.take(all);
+            limit.take(|| entries_of(&sectors));
+            ours.take(all);
         });
-        line.print();
+        print_line(what, &limit, &ours, &Times::default());
     }
 }
 
@@ -267,13 +287,14 @@ fn name_crc() {
 
 fn main() {
     println!(
-        "microseconds; limit: a plain table CRC over the page headers and item headers that the rules make one read"
+        "microseconds; limit: a plain table CRC over the page headers and item headers that the rules make one read, and a pass over the Blank sectors"
     );
     println!(
         "{:<46}{:>9}{:>9}{:>9}{:>9}{:>9}{:>12}{:>12}",
         "", "limit", "ours", "least", "crate", "least", "ours/crate", "ours/limit"
     );
     time_reclaims();
+    time_blanks();
     time_recoveries();
     time_readings();
     name_crc();

@@ -136,6 +136,13 @@ module _ {n : ℕ} {l m : List ℕ} where
   pub made-all : {ts : List Staged} {k : ℕ} → Made ts n l m (Ended k) → m ≡ run (untag ts) l
   made-all d = did-all (ended-did d)
 
+  -- none was, where as many are allowed as at first
+  pub made-idle : {ts : List Staged} → Made ts n l m (Ended n) → m ≡ l
+  unfolding run
+  made-idle {ts} d =
+      let h = ended-fits n n ts (d .answer) in
+      made-all d ∙ ap (λ (ss : List Step). run ss l) (sym (take-all 0 (untag ts) (omega (arith, length-untag ts))))
+
   -- steps of one stage
   pub made-tag : (x : Stage) {ss : List Step} {r : Ran} → Did ss n l m r → Made (tag x ss) n l m (inStage x r)
   made-tag x {ss} {r = Done k} d =

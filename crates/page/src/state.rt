@@ -2,8 +2,7 @@
 use crc::CrcTable;
 ghost use mathlib.Core.Path.{_≡_};
 ghost use mathlib.Core.List.{[], _∷_};
-ghost use Prim.Native.Nat.{_≤_};
-ghost use lib.ListN.{length, drop};
+ghost use lib.ListN.{length};
 ghost use Rattle.crc.specs.Table.{crcTable};
 ghost use Rattle.page.specs.State.{allOnes, wordState, stateOf, isFree};
 
@@ -15,34 +14,25 @@ pub enum PageState {
     Freeing,
 }
 
-// Whether every byte from `from` on is 0xFF.
-fn ones_from(s: &[u8], from: usize) -> bool
-    requires { ⌜ from ≤ length (now s) ⌝ }
-    ensures { λ r. ⌜ r ≡ allOnes (drop from (now (s .entry))) ⌝ }
-{
-    let mut i = from;
-    while i < s.len() {
-        if s[i] != 0xFF {
-            return false;
-        }
-        i += 1;
-    }
-    true
-}
+// A sector is compared by groups of eight bytes.
+const GROUP_BYTES: usize = 8;
 
-// Whether every byte is 0xFF: eight at a time, since a blank sector is read to its end.
+const GROUPS: usize = 512;
+
+// Whether every byte of a sector is 0xFF: group by group, up to the first that differs. A Blank sector is read to its end.
 pub fn all_ones(s: &[u8]) -> bool
+    requires { ⌜ length (now s) ≡ 4096 ⌝ }
     ensures { λ r. ⌜ r ≡ allOnes (now (s .entry)) ⌝ }
 {
-    let mut i: usize = 0;
-    while 8 <= s.len() - i {
-        let w = word::le64(s, i);
-        if w != 0xFFFF_FFFF_FFFF_FFFF {
+    let mut g: usize = 0;
+    while g < GROUPS {
+        let w = word::le64(s, g * GROUP_BYTES);
+        if w != u64::MAX {
             return false;
         }
-        i += 8;
+        g += 1;
     }
-    ones_from(s, i)
+    true
 }
 
 // The state that a state word, given by its bytes, lowest first, stands for.

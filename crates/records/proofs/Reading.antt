@@ -1,12 +1,15 @@
 -- The rows of an image: one sector more, and how many are its records. Assumes nothing.
 use mathlib.Core.Path.{_≡_, refl, sym, _∙_}
 use mathlib.Core.List.{List, [], _∷_, _++_}
+use mathlib.Core.Logic.{_⊎_, inl, inr}
 use Prim.Native.Nat.{ℕ, zero, suc, _+_, _-_, _≤_, _<_}
 use native.Mathlib.Omega.{arith}
 use native.Mathlib.Numerals.{add-one}
-use lib.ListN.{length, take, set, replicate, length-append}
-use lib.Seq.{set-at, take-at, append-snoc}
+use lib.ListN.{length, getD, take, set, replicate, length-append, List·getD-append}
+use lib.Seq.{set-at, take-at, getD-at, append-snoc}
 use Rattle.flash.specs.Step.{sector}
+use Rattle.flash.proofs.Order.{le-or-gt}
+use Rattle.page.specs.declared.«record».PageRecord.{PageRecord}
 use Rattle.page.specs.Record.{recordOf}
 use Rattle.records.specs.Records.{recordsTo, blankRecord, rowsOf}
 
@@ -14,6 +17,16 @@ pub length-records : (l : List ℕ) (n : ℕ) → length (recordsTo l n) ≡ n
 unfolding recordsTo
 length-records l zero = refl
 length-records l (suc n) = omega (arith, length-append (recordsTo l n) (recordOf (sector n l) ∷ []), length-records l n)
+
+-- each stands at its sector's number
+record-at : (l : List ℕ) (n u : ℕ) (d : PageRecord) → u < n → getD (recordsTo l n) u d ≡ recordOf (sector u l)
+unfolding recordsTo
+record-at l zero u d h = absurd (omega arith)
+record-at l (suc n) u d h = go (le-or-gt n u) (record-at l n u d)
+  where
+    go : (n ≤ u) ⊎ (u < n) → (u < n → getD (recordsTo l n) u d ≡ recordOf (sector u l)) → getD (recordsTo l n ++ (recordOf (sector n l) ∷ [])) u d ≡ recordOf (sector u l)
+    go (inl k) ih = let e : u ≡ n = omega arith in rw e (getD-at (recordsTo l n) (recordOf (sector n l)) [] d n (length-records l n))
+    go (inr k) ih = List·getD-append (recordsTo l n) _ d u (omega (arith, length-records l n)) ∙ ih k
 
 module _ (l : List ℕ) (n : ℕ) where
   pub records-more : recordsTo l (n + 1) ≡ recordsTo l n ++ (recordOf (sector n l) ∷ [])
@@ -33,3 +46,6 @@ module _ (l : List ℕ) (n : ℕ) where
 
   pub rows-there : n ≤ length (rowsOf l n .rows)
   rows-there = omega (arith, length-append (recordsTo l n) (replicate (16 - n) blankRecord), length-records l n)
+
+  pub row-at : (u : ℕ) (d : PageRecord) → u < n → getD (rowsOf l n .rows) u d ≡ recordOf (sector u l)
+  row-at u d h = List·getD-append (recordsTo l n) _ d u (omega (arith, length-records l n)) ∙ record-at l n u d h

@@ -1,5 +1,5 @@
 -- From the refusals and from what the stages made to the promise, and from the rows to the records stored. Assumes nothing.
-use mathlib.Core.Path.{_≡_, refl, ap, _∙_}
+use mathlib.Core.Path.{_≡_, refl, sym, ap, _∙_}
 use mathlib.Core.Bool.{true, false}
 use mathlib.Core.List.{List, [], _++_}
 use Prim.Native.Nat.{ℕ, zero, suc, _/_, _≤_, _<_}
@@ -16,7 +16,7 @@ use Rattle.answer.specs.Answer.{numberOf}
 use Rattle.answer.specs.Staged.{Staged, untag}
 use Rattle.answer.specs.Told.{Told}
 use Rattle.answer.specs.Went.{Made, toldOf}
-use Rattle.answer.proofs.Made.{told-is}
+use Rattle.answer.proofs.Made.{made-idle, told-is}
 use Rattle.answer.proofs.Values.{idle}
 use Rattle.page.specs.declared.«record».PageRecord.{PageRecord}
 use Rattle.table.specs.Table.{sectorsOf, wholeSectors, pages}
@@ -90,6 +90,10 @@ module _ (l : List ℕ) (lent n : ℕ) where
           image = image-is;
           rows = rw (a, e, sectors-are) s;
         }
+
+    -- no step was made: the rows of the image as it was found are those of the image that is left
+    pub ended-idle : {r : Recovered} → w ≡ Ended n → r .answer ≡ toldOf w n → r .rows ≡ rowsOf l (sectorsOf l) → Recovers l lent n m r
+    ended-idle {r} e a s = ended-rows e a (s ∙ ap (λ (i : List ℕ). rowsOf i (sectorsOf l)) (sym (made-idle (rw e at made))))
 
 -- ---- the records stored
 

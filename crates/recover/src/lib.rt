@@ -51,15 +51,19 @@ pub fn recover_image(image: &mut [u8], lent: usize, allowance: u64) -> Recovered
         return without_rows(Answer::FewRecords);
     }
     let t = crc::table();
-    let table = table::scan(&t, image, sectors);
+    let rows = records::read_rows(&t, image, sectors);
+    let table = table::list_rows(rows);
     if is_too_high(table) {
         return without_rows(Answer::SequencesSpent);
     }
     let went = stages::make_stages(&t, image, table, allowance);
     let answer = answer::told(went, allowance);
-    let Went::Ended(_) = went else {
+    let Went::Ended(left) = went else {
         return without_rows(answer);
     };
+    if left == allowance {
+        return Recovered { answer, rows };
+    }
     Recovered {
         answer,
         rows: records::read_rows(&t, image, sectors),

@@ -4,13 +4,15 @@ use layout::MOST_SECTORS;
 use layout::SECTOR_BYTES;
 use page::PageRecord;
 use page::PageState;
+use records::Rows;
 ghost use mathlib.Core.Path.{_≡_};
-ghost use mathlib.Core.List.{[], _∷_, _++_, dropLast};
-ghost use Prim.Native.Nat.{max, _-_, _*_, _≤_, _<_};
+ghost use mathlib.Core.List.{List, [], _∷_, _++_, dropLast};
+ghost use Prim.Native.Nat.{ℕ, max, _-_, _*_, _≤_, _<_};
 ghost use lib.ListN.{length};
 ghost use Rattle.crc.specs.Table.{crcTable};
 ghost use Rattle.lists.specs.Lists.{greatest, some-of, firstOf, takeOut};
-ghost use Rattle.table.specs.Table.{wholeSectors, pages, frees, active, sequence, activePage, inSector, asFull, listed, freed, Sized, Holds};
+ghost use Rattle.records.specs.Records.{rowsOf};
+ghost use Rattle.table.specs.Table.{sectorsOf, wholeSectors, pages, frees, active, sequence, activePage, inSector, asFull, listed, freed, Sized, Holds};
 ghost use Rattle.table.specs.Sought.{soughtOf, codeOf, inState};
 
 // A page of the list: its sector, and the record that the scan made of it.
@@ -54,20 +56,19 @@ fn no_page() -> Page {
     }
 }
 
-// The scan: it only reads.
-pub fn scan(t: &CrcTable, image: &[u8], sectors: usize) -> Table
-    requires { ⌜ (now t ≡ crcTable) × (length (now image) ≡ sectors * 4096) × (sectors ≤ 16) ⌝ }
-    ensures { λ r. ⌜ Holds r (pages (now (image .entry))) (frees (now (image .entry))) ⌝ }
+// The lists of the sectors that the rows are of, whatever image they were read from.
+pub fn list_rows(rows: Rows) -> Table
+    requires { ⌜ rows .count ≤ 16 ⌝ }
+    ensures { λ r. ⌜ ((l : List ℕ) → rows ≡ rowsOf l (sectorsOf l) → Holds r (pages l) (frees l)) ⌝ }
 {
+    let sectors = rows.count;
     let mut list = [no_page(); MOST_SECTORS];
     let mut count: usize = 0;
     let mut free = [0u8; MOST_SECTORS];
     let mut free_count: usize = 0;
     let mut n: usize = 0;
     while n < sectors {
-        let a = n * SECTOR_BYTES;
-        let e = a + SECTOR_BYTES;
-        let seen = page::page_record(t, &image[a..e]);
+        let seen = rows.rows[n];
         let state = seen.state;
         if page::is_free(state) {
             free[free_count] = n as u8;
@@ -88,6 +89,14 @@ pub fn scan(t: &CrcTable, image: &[u8], sectors: usize) -> Table
         free,
         free_count,
     }
+}
+
+// The scan: it only reads.
+pub fn scan(t: &CrcTable, image: &[u8], sectors: usize) -> Table
+    requires { ⌜ (now t ≡ crcTable) × (length (now image) ≡ sectors * 4096) × (sectors ≤ 16) ⌝ }
+    ensures { λ r. ⌜ Holds r (pages (now (image .entry))) (frees (now (image .entry))) ⌝ }
+{
+    list_rows(records::read_rows(t, image, sectors))
 }
 
 // Whether the image is 2 to 16 whole sectors.
