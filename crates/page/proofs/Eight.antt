@@ -42,16 +42,20 @@ many (suc n) (b ∷ bs) small h =
     ∙ regroup (eqb b 255) (eqb (number (λ j. getD bs j 0) n) (number (λ j. 255) n)) (allOnes (drop n bs))
     ∙ ap (λ (t : Bool). t && allOnes (drop n bs)) (sym (apart b (number (λ j. getD bs j 0) n) (number (λ j. 255) n) (small 0)))
 
-module _ (s : List ℕ) (small : (j : ℕ) → getD s j 0 < 256) (i : ℕ) (fits : i + 8 ≤ length s) where
-  eight : allOnes (drop i s) ≡ eqb (le s i 8) 0xFFFF_FFFF_FFFF_FFFF && allOnes (drop (i + 8) s)
+module _ (s : List ℕ) (small : (j : ℕ) → getD s j 0 < 256) where
+  -- the eight bytes from i on, where the next group begins at j
+  eight : (i j : ℕ) → j ≡ i + 8 → j ≤ length s → allOnes (drop i s) ≡ eqb (le s i 8) 0xFFFF_FFFF_FFFF_FFFF && allOnes (drop j s)
   unfolding le
-  eight =
+  eight i j e fits =
       let h : 8 ≤ length (drop i s) = simp length-drop (omega arith) in
-      let m = many 8 (drop i s) (λ j. rw getD-drop (small (i + j))) h in
-      simp (getD-drop, drop-drop) at m
+      let m = many 8 (drop i s) (λ k. rw getD-drop (small (i + k))) h in
+      rw e (simp (getD-drop, drop-drop) at m)
 
-  pub eight-more : le s i 8 ≡ 0xFFFF_FFFF_FFFF_FFFF → allOnes (drop (i + 8) s) ≡ allOnes (drop i s)
-  eight-more e = sym (eight ∙ ap (λ (t : Bool). t && allOnes (drop (i + 8) s)) (eq-eqb _ _ e))
-
-  pub eight-not : (le s i 8 ≡ 0xFFFF_FFFF_FFFF_FFFF → ⊥) → allOnes (drop i s) ≡ false
-  eight-not e = eight ∙ ap (λ (t : Bool). t && allOnes (drop (i + 8) s)) (ne-eqb _ _ e)
+  -- four such groups
+  pub four : (i : ℕ) → i + 32 ≤ length s
+      → allOnes (drop i s) ≡ eqb (le s i 8) 0xFFFF_FFFF_FFFF_FFFF && (eqb (le s (i + 8) 8) 0xFFFF_FFFF_FFFF_FFFF && (eqb (le s (i + 16) 8) 0xFFFF_FFFF_FFFF_FFFF && (eqb (le s (i + 24) 8) 0xFFFF_FFFF_FFFF_FFFF && allOnes (drop (i + 32) s))))
+  four i h =
+      eight i (i + 8) refl (omega arith) ∙ ap (λ (b : Bool). eqb (le s i 8) 0xFFFF_FFFF_FFFF_FFFF && b)
+      (eight (i + 8) (i + 16) (omega arith) (omega arith) ∙ ap (λ (b : Bool). eqb (le s (i + 8) 8) 0xFFFF_FFFF_FFFF_FFFF && b)
+      (eight (i + 16) (i + 24) (omega arith) (omega arith) ∙ ap (λ (b : Bool). eqb (le s (i + 16) 8) 0xFFFF_FFFF_FFFF_FFFF && b)
+      (eight (i + 24) (i + 32) (omega arith) (omega arith))))

@@ -1,8 +1,12 @@
 // The state of a sector.
 use crc::CrcTable;
+use layout::ENTRY_BYTES;
+use layout::SECTOR_PLACES;
 ghost use mathlib.Core.Path.{_≡_};
+ghost use mathlib.Core.Bool.{_&&_};
 ghost use mathlib.Core.List.{[], _∷_};
-ghost use lib.ListN.{length};
+ghost use Prim.Native.Nat.{_+_, _≤_};
+ghost use lib.ListN.{length, drop};
 ghost use Rattle.crc.specs.Table.{crcTable};
 ghost use Rattle.page.specs.State.{allOnes, wordState, stateOf, isFree};
 
@@ -14,23 +18,38 @@ pub enum PageState {
     Freeing,
 }
 
-// A sector is compared by groups of eight bytes.
-const GROUP_BYTES: usize = 8;
+// Whether the 32 bytes from `at` on are 0xFF: four groups of eight, up to the first that differs.
+fn are_ones(s: &[u8], at: usize) -> bool
+    requires { ⌜ at + 32 ≤ length (now s) ⌝ }
+    ensures { λ r. ⌜ allOnes (drop at (now (s .entry))) ≡ r && allOnes (drop (at + 32) (now (s .entry))) ⌝ }
+{
+    let w0 = word::le64(s, at);
+    if w0 != u64::MAX {
+        return false;
+    }
+    let w1 = word::le64(s, at + 8);
+    if w1 != u64::MAX {
+        return false;
+    }
+    let w2 = word::le64(s, at + 16);
+    if w2 != u64::MAX {
+        return false;
+    }
+    let w3 = word::le64(s, at + 24);
+    w3 == u64::MAX
+}
 
-const GROUPS: usize = 512;
-
-// Whether every byte of a sector is 0xFF: group by group, up to the first that differs. A Blank sector is read to its end.
+// Whether every byte of a sector is 0xFF. A Blank sector is read to its end, so a turn takes four groups: one at a time takes nearly twice as long.
 pub fn all_ones(s: &[u8]) -> bool
     requires { ⌜ length (now s) ≡ 4096 ⌝ }
     ensures { λ r. ⌜ r ≡ allOnes (now (s .entry)) ⌝ }
 {
-    let mut g: usize = 0;
-    while g < GROUPS {
-        let w = word::le64(s, g * GROUP_BYTES);
-        if w != u64::MAX {
+    let mut p: usize = 0;
+    while p < SECTOR_PLACES {
+        if !are_ones(s, p * ENTRY_BYTES) {
             return false;
         }
-        g += 1;
+        p += 1;
     }
     true
 }

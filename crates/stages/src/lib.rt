@@ -70,11 +70,15 @@ fn repair(t: &CrcTable, image: &mut [u8], table: Table, room: &mut [u16], allowe
     after_blobs(t, image, table, room, left)
 }
 
-// The quick test spares a clean store the stages' searches. It takes its slots from the array that the stages work in afterwards.
+// Where no page is listed there is no item. The quick test spares a clean store the stages' searches. It takes its slots from the array that the stages work
+// in afterwards.
 fn last_stages(t: &CrcTable, image: &mut [u8], table: Table, allowed: u64) -> Went
     requires { ⌜ (now t ≡ crcTable) × Sized table × PagesPlaced (sectorsOf (now image)) (listed table) (freed table) × Each (Lies (now image)) (listed table) ⌝ }
     ensures { λ r. ⌜ Made (lastStages (listed table) (now (image .entry))) allowed (now (image .entry)) (now (image .exit)) r ⌝ }
 {
+    if table.count == 0 {
+        return Went::Ended(allowed);
+    }
     let mut room = [0u16; SLOTS];
     if quick::is_calm(t, image, table, &mut room) {
         return close_full(image, table, allowed);
