@@ -228,12 +228,10 @@ fn time_recoveries() {
     }
 }
 
-/// How many groups of eight bytes are 0xFF, up to the first that differs: one pass over a Blank sector.
-fn ones_of(sector: &[u8]) -> u32 {
-    sector
-        .chunks_exact(8)
-        .take_while(|group| u64::from_le_bytes((*group).try_into().expect("eight")) == u64::MAX)
-        .count() as u32
+/// One pass over the bytes, with no stop: what of each eight is 0xFF in all of them.
+fn ones_of(sectors: &[u8]) -> u32 {
+    let groups = sectors.chunks_exact(8).map(|group| u64::from_le_bytes(group.try_into().expect("eight bytes")));
+    groups.fold(u64::MAX, |all, group| all & group) as u32
 }
 
 /// Stores that are Blank but for their first pages. What the rules make one read is every byte of a Blank sector once.
@@ -242,7 +240,7 @@ fn time_blanks() {
         [("recovery: 16 Blank sectors", blank_16(), 0), ("recovery: 16 sectors, 15 of them Blank", blank_15(), 1)]
     {
         let (used, blank) = image.split_at(pages * SECTOR);
-        let limit = || headers_of(used) ^ entries_of(used) ^ blank.chunks(SECTOR).map(ones_of).fold(0, |x, y| x ^ y);
+        let limit = || headers_of(used) ^ entries_of(used) ^ ones_of(blank);
         let ours: [(&str, Call); 2] = [(what, recover), ("  ours with the test byte by byte", recover_bytewise)];
         time_calls(&image, limit, &ours, of_crate::RECOVER);
     }
