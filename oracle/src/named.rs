@@ -2,7 +2,7 @@
 
 use crate::items::{BLOB_INDEX, CHUNK};
 use crate::protocol::{Case, Operation};
-use crate::sector::{EntryState, ACTIVE_WORD, FREEING_WORD, FULL_WORD};
+use crate::sector::{EntryState, ACTIVE_WORD, FREEING_WORD, FULL_WORD, SECTOR_BYTES};
 use crate::writing::{
     blank_sector, chunk_data, empty_page, index_data, key_of, set_entry, set_entry_state, Fields,
 };
@@ -110,8 +110,17 @@ fn one_chunk_index_twice() -> Vec<u8> {
     [blank_sector(), page(FULL_WORD, 7, &[chunk, chunk, index])].concat()
 }
 
+/// Two sectors that are Blank but for one byte: the first behind the eight first, and the last of all.
+fn nearly_blank() -> Vec<u8> {
+    let (mut first, mut second) = (blank_sector(), blank_sector());
+    first[8] = 0xFE;
+    second[SECTOR_BYTES - 1] = 0x7F;
+    [first, second].concat()
+}
+
 /// Cases for slips that the cases chosen by their branches do not show (slip.rs): a copy stopped between its
-/// two state words, a finish stopped at the copy's erasure, and two chunks of one chunk index.
+/// two state words, a finish stopped at the copy's erasure, two chunks of one chunk index, and sectors that are
+/// Corrupt by one byte alone.
 pub fn slip_cases(operation: Operation) -> Vec<Case> {
     let case = |allowance, image| Case { operation, allowance, records: 16, image };
     let marked_and_initialised = 1 + 8;
@@ -121,7 +130,11 @@ pub fn slip_cases(operation: Operation) -> Vec<Case> {
             vec![case(marked_and_initialised + words_and_one_of_states, payload_like_items())]
         }
         Operation::Recover => {
-            vec![case(0, partial_copy_beside_freeing()), case(u64::MAX, one_chunk_index_twice())]
+            vec![
+                case(0, partial_copy_beside_freeing()),
+                case(u64::MAX, one_chunk_index_twice()),
+                case(u64::MAX, nearly_blank()),
+            ]
         }
         Operation::ItemReader | Operation::Listing => Vec::new(),
     }

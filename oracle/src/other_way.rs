@@ -8,7 +8,7 @@ use crate::finish::{erase_source, is_copy};
 use crate::items::{items, walk, Item, Key, Met};
 use crate::recover::stages;
 use crate::scan::{scan, Found, Lists, Page};
-use crate::sector::{entry_state, number, state, total, EntryState, State, ENTRIES};
+use crate::sector::{entry_state, number, state, total, EntryState, State, ENTRIES, SECTOR_BYTES};
 use crate::slip::{slipped, Slip};
 use crate::steps::{state_words, Run, Stage, Step};
 
@@ -18,6 +18,8 @@ pub fn blank(sector: &[u8]) -> bool {
     let but_for_pairs = || ones(&sector[..63]) && ones(&[sector[63] | 0xF0]) && ones(&sector[64..]);
     slipped(Slip::BlankByStateWord) && number(sector, 0) == u32::MAX
         || slipped(Slip::BlankWithoutLastPairs) && but_for_pairs()
+        || slipped(Slip::BlankByNines) && sector.chunks(9).all(|nine| ones(&nine[..nine.len().min(8)]))
+        || slipped(Slip::BlankWithoutLastGroup) && ones(&sector[..SECTOR_BYTES - 8])
 }
 
 /// Zero bytes from the first zero byte on.

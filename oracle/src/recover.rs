@@ -87,7 +87,8 @@ pub fn recover(image: &[u8], allowance: u64, records: &mut [Option<Record>]) -> 
     };
     let outcome = call(image, allowance, Stage::ActiveOrder, rules);
     if outcome.result == 0 {
-        for (place, sector) in records.iter_mut().zip(outcome.image.chunks(SECTOR_BYTES)) {
+        let read = if slipped(Slip::RecordsBeforeSteps) { image } else { &outcome.image };
+        for (place, sector) in records.iter_mut().zip(read.chunks(SECTOR_BYTES)) {
             *place = Some(record(sector));
         }
     }

@@ -1,4 +1,4 @@
-//! Slips and other readings of document 01, each of which can be switched on in the model to see whether the
+//! Slips and other readings of the two documents, each of which can be switched on in the model to see whether the
 //! recorded cases catch it. The rules ask `slipped(..)` where one of them would go another way; nothing else
 //! depends on it.
 
@@ -12,7 +12,7 @@ macro_rules! slips {
         impl Slip {
             pub const ALL: &'static [Slip] = &[$(Slip::$name,)*];
 
-            /// The reading of docs/DECISIONS.md that it goes against, or document 01's list of slips.
+            /// The reading of docs/DECISIONS.md that it goes against, document 01's list of slips, or the request.
             pub fn source(self) -> &'static str {
                 match self { $(Slip::$name => $source,)* }
             }
@@ -33,6 +33,9 @@ slips! {
     BlobOfFirstSectorKept "slip" "the older blob is kept because its sector comes first",
     BlankByStateWord "R3" "a state word of all ones is enough for Blank",
     BlankWithoutLastPairs "R3" "the two pairs past entry 125 do not count for Blank",
+    BlankByNines "No. 3" "of nine bytes one does not count for Blank",
+    BlankWithoutLastGroup "No. 3" "the last eight bytes do not count for Blank",
+    RecordsBeforeSteps "No. 3" "the records are those of the image before the steps",
     HeaderRestTested "R3" "header bytes 9-27 have to be 0xFF as well",
     KeyEndsAtZeroByte "R7" "a key ends at its first zero byte",
     WordsOfOnesSkipped "R10" "words of all ones are not programmed",
