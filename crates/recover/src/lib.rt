@@ -51,7 +51,7 @@ pub fn recover_image(image: &mut [u8], lent: usize, allowance: u64) -> Recovered
         return without_rows(Answer::FewRecords);
     }
     let t = crc::table();
-    let rows = records::read_rows(&t, image, sectors);
+    let mut rows = records::read_rows(&t, image, sectors);
     let table = table::list_rows(rows);
     if is_too_high(table) {
         return without_rows(Answer::SequencesSpent);
@@ -61,13 +61,10 @@ pub fn recover_image(image: &mut [u8], lent: usize, allowance: u64) -> Recovered
     let Went::Ended(left) = went else {
         return without_rows(answer);
     };
-    if left == allowance {
-        return Recovered { answer, rows };
+    if left != allowance {
+        rows = records::read_rows(&t, image, sectors);
     }
-    Recovered {
-        answer,
-        rows: records::read_rows(&t, image, sectors),
-    }
+    Recovered { answer, rows }
 }
 
 // Recovers the image by at most `allowance` steps. After the last step the page records go into `records`, one a sector.

@@ -1,5 +1,5 @@
 -- `recover::recover_image` meets its contract: each refusal in its order, and what the stages made. Assumes nothing.
-use mathlib.Core.Path.{sym, ap, _∙_}
+use mathlib.Core.Path.{_≡_, sym, ap, _∙_}
 use borrow.Author.Tests.{not-true, not-false}
 use Rattle.answer.specs.declared.Went.the-variants.{Ended}
 use Rattle.stages.specs.Stages.{tooHigh}
@@ -80,21 +80,6 @@ returns-4 c =
     let low = ap tooHigh (sym (lists .list)) ∙ sym (at-if3 .before .is-too-high .ensures) ∙ at-if3 .if3 .left in
     stopped-short (a .args .image .now) (a .args .lent) (a .args .allowance) (sym (at-is-whole .is-whole .ensures) ∙ not-false _ (at-if1 .if1 .left)) (at-if2 .if2 .left) low (at-make-stages .make-stages .ensures) (c .before .enum-told .given .1) (c .without-rows4 .ensures .0 ∙ c .before .before .before .told .ensures) (c .without-rows4 .ensures .1)
 
-returns-5 : tie.Need-returns-5
-returns-5 c =
-    let at-told = c .before .before .before .before in
-    let at-make-stages = at-told .before .before .before in
-    let at-if3 = at-make-stages .before .before .before in
-    let at-list = at-if3 .before .before in
-    let at-rows = at-list .before in
-    let at-if2 = at-rows .before .before .before .before in
-    let at-if1 = at-if2 .before in
-    let at-is-whole = at-if1 .before in
-    let a = at-is-whole .before .before .before in
-    let lists = at-list .list-rows .ensures (a .args .image .now) (at-rows .read-rows .ensures) in
-    let low = ap tooHigh (sym (lists .list)) ∙ sym (at-if3 .before .is-too-high .ensures) ∙ at-if3 .if3 .left in
-    ended-idle (a .args .image .now) (a .args .lent) (a .args .allowance) (sym (at-is-whole .is-whole .ensures) ∙ not-false _ (at-if1 .if1 .left)) (at-if2 .if2 .left) low (at-make-stages .make-stages .ensures) (c .before .before .went .given .1 ∙ ap Ended (c .if4 .taken)) (at-told .told .ensures) (at-rows .read-rows .ensures)
-
 read-rows-requires-2 : tie.Need-read-rows-requires-2
 read-rows-requires-2 c κs =
     let at-make-stages = c .before .before .before .before .before .before .before .before .before in
@@ -106,8 +91,8 @@ read-rows-requires-2 c κs =
     let w = whole-is (a .args .image .now) (sym (at-is-whole .is-whole .ensures) ∙ not-false _ (at-if1 .if1 .left)) in
     (at-table .table .ensures, made-size (at-make-stages .make-stages .ensures) ∙ w .0, w .1)
 
-returns-6 : tie.Need-returns-6
-returns-6 c =
+returns-5 : tie.Need-returns-5
+returns-5 c =
     let at-told = c .before .before .before .before .before .before .before in
     let at-make-stages = at-told .before .before .before in
     let at-if3 = at-make-stages .before .before .before in
@@ -120,6 +105,22 @@ returns-6 c =
     let lists = at-list .list-rows .ensures (a .args .image .now) (at-rows .read-rows .ensures) in
     let low = ap tooHigh (sym (lists .list)) ∙ sym (at-if3 .before .is-too-high .ensures) ∙ at-if3 .if3 .left in
     ended-rows (a .args .image .now) (a .args .lent) (a .args .allowance) (sym (at-is-whole .is-whole .ensures) ∙ not-false _ (at-if1 .if1 .left)) (at-if2 .if2 .left) low (at-make-stages .make-stages .ensures) (c .before .before .before .before .before .went .given .1) (at-told .told .ensures) (c .read-rows2 .ensures)
+
+returns-6 : tie.Need-returns-6
+returns-6 c =
+    let at-told = c .before .before .before .before in
+    let at-make-stages = at-told .before .before .before in
+    let at-if3 = at-make-stages .before .before .before in
+    let at-list = at-if3 .before .before in
+    let at-rows = at-list .before in
+    let at-if2 = at-rows .before .before .before .before in
+    let at-if1 = at-if2 .before in
+    let at-is-whole = at-if1 .before in
+    let a = at-is-whole .before .before .before in
+    let lists = at-list .list-rows .ensures (a .args .image .now) (at-rows .read-rows .ensures) in
+    let low = ap tooHigh (sym (lists .list)) ∙ sym (at-if3 .before .is-too-high .ensures) ∙ at-if3 .if3 .left in
+    let no-step : c .before .before .went .given .0 .0 ≡ a .args .allowance = c .if4 .left in
+    ended-idle (a .args .image .now) (a .args .lent) (a .args .allowance) (sym (at-is-whole .is-whole .ensures) ∙ not-false _ (at-if1 .if1 .left)) (at-if2 .if2 .left) low (at-make-stages .make-stages .ensures) (c .before .before .went .given .1 ∙ ap Ended no-step) (at-told .told .ensures) (at-rows .read-rows .ensures)
 
 pub recover-image-spec : {M : Type 1} → statement M
 recover-image-spec =
@@ -146,8 +147,8 @@ recover-image-spec =
     (λ c κs. search needs)
     (λ c. search needs)
     returns-4
+    read-rows-requires-2
     (λ c. search needs)
     returns-5
-    read-rows-requires-2
     (λ c. search needs)
     returns-6)
