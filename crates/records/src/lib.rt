@@ -1,4 +1,4 @@
-// Page records: one a sector, read after the last step and stored into the records that the caller lends.
+// Page records: one a sector, read from an image, and stored into the records that a caller lends.
 use crc::CrcTable;
 use layout::MOST_SECTORS;
 use layout::SECTOR_BYTES;
@@ -10,7 +10,7 @@ ghost use lib.ListN.{length, getD, take};
 ghost use Rattle.crc.specs.Table.{crcTable};
 ghost use Rattle.records.specs.Records.{filled, blankRecord, noRows, rowsOf};
 
-// The records to store, by value: `count` is 0 where a call stores none.
+// The records of an image's sectors, by value: `count` is 0 where a call stores none.
 pub struct Rows {
     pub rows: [PageRecord; MOST_SECTORS],
     pub count: usize,

@@ -61,6 +61,7 @@ pub fn recover_image(image: &mut [u8], lent: usize, allowance: u64) -> Recovered
     let Went::Ended(left) = went else {
         return without_rows(answer);
     };
+    // without a step the image is still the one that the rows were read from
     if left != allowance {
         rows = records::read_rows(&t, image, sectors);
     }
