@@ -1,4 +1,4 @@
--- The rows of an image: one sector more, and how many are its records. Assumes nothing.
+-- The rows of an image: one sector more, how many are its records, and the record of each sector. Assumes nothing.
 use mathlib.Core.Path.{_≡_, refl, sym, _∙_}
 use mathlib.Core.List.{List, [], _∷_, _++_}
 use mathlib.Core.Logic.{_⊎_, inl, inr}
