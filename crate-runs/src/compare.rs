@@ -4,7 +4,7 @@ use std::io::{self, Read, Write};
 use std::process::{Command, Stdio};
 use std::thread;
 
-use model::protocol::{Case, Operation};
+use model::protocol::{Case, Operation, RECORD_BYTES};
 use model::steps::Outcome;
 
 use crate::crate_call::{run, CrateOutcome};
@@ -41,7 +41,7 @@ fn take_answer(bytes: &[u8]) -> Option<(Answer<'_>, &[u8])> {
     let (image, rest) = rest.split_at_checked(length as usize)?;
     let (count, rest) = rest.split_at_checked(4)?;
     let records = u32::from_le_bytes(count.try_into().ok()?);
-    let (_, rest) = rest.split_at_checked(21 * records as usize)?;
+    let (_, rest) = rest.split_at_checked(RECORD_BYTES * records as usize)?;
     Some(((head[0], steps, image), rest))
 }
 

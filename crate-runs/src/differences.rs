@@ -2,7 +2,8 @@
 //! name, by which docs/DIFFERENCES.md cites it.
 
 use model::protocol::{Case, Operation};
-use model::sector::{free, record, SECTOR_BYTES};
+use model::record::record;
+use model::sector::{free, SECTOR_BYTES};
 use model::steps::{sector_of, Step};
 
 use crate::class::{held, model_outcome};

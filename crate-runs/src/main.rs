@@ -9,7 +9,7 @@ use crate_runs::class::in_class;
 use crate_runs::compare::{check, compare};
 use crate_runs::crate_call::run;
 use crate_runs::{cuts, differences, draw, record, stories};
-use model::protocol::{Case, Operation};
+use model::protocol::{Case, Operation, RECORD_BYTES};
 
 const USAGE: &str = "crate-runs answer < cases > answers
 crate-runs select < cases > cases of the class
@@ -61,7 +61,7 @@ fn answer(case: &Case) -> Vec<u8> {
     bytes.extend((outcome.image.len() as u32).to_le_bytes());
     bytes.extend(outcome.image);
     bytes.extend(records.to_le_bytes());
-    bytes.resize(bytes.len() + 21 * records as usize, 0xEE);
+    bytes.resize(bytes.len() + RECORD_BYTES * records as usize, 0xEE);
     bytes
 }
 

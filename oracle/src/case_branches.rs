@@ -4,15 +4,17 @@ use std::collections::BTreeSet;
 
 use crate::active_order::kept_place;
 use crate::branch::Branch;
-use crate::items::{read_items, walk, Item, Met, KNOWN_TYPES};
+use crate::items::{read_items, unread, walk, Item, Met, KNOWN_TYPES};
 use crate::listing::listing;
+use crate::other_way::written_less_spans;
 use crate::protocol::{Case, Operation};
 use crate::reclaim::reclaim;
+use crate::record::{record, Record};
 use crate::recover::recover;
 use crate::scan::scan;
 use crate::sector::{
-    blank, entry_state, free, header_crc_right, number, record, state, state_of_word, version,
-    version_known, EntryState, Record, State, ENTRIES, ENTRY_BYTES, SECTOR_BYTES,
+    blank, entry_state, free, header_crc_right, number, state, state_of_word, version, version_known,
+    EntryState, State, ENTRIES, ENTRY_BYTES, SECTOR_BYTES,
 };
 use crate::steps::{Outcome, Stage, Step, TaggedStep};
 
@@ -138,10 +140,9 @@ const TYPE_BRANCHES: [Branch; 12] = [
 ];
 
 fn branches_of_item(sector: &[u8], item: &Item) -> Branches {
-    let end = item.entry + item.span();
-    let unmarked = (item.entry..end).any(|entry| entry_state(sector, entry) != EntryState::Written);
+    let unmarked = (item.entry..item.end()).any(|entry| entry_state(sector, entry) != EntryState::Written);
     let conditions = [
-        (end == ENTRIES, Branch::WalkSpanToLastEntry),
+        (item.end() == ENTRIES, Branch::WalkSpanToLastEntry),
         (item.span() == ENTRIES, Branch::WalkSpan126),
         (unmarked, Branch::WalkPayloadNotWritten),
         (item.namespace() == 0, Branch::WalkNamespace0),
@@ -149,6 +150,58 @@ fn branches_of_item(sector: &[u8], item: &Item) -> Branches {
     let mut met = held(&conditions);
     let types = KNOWN_TYPES.iter().zip(TYPE_BRANCHES);
     met.extend(types.filter(|(kind, _)| **kind == item.kind()).map(|(_, branch)| branch));
+    met
+}
+
+/// What a sector's count of unread entries shows, in the order of `branches_of_unread`, by who tells it.
+const UNREAD_OF_READER: [Branch; 7] = [
+    Branch::ReaderLoneWrongCrc,
+    Branch::ReaderLoneUnknownType,
+    Branch::ReaderLoneSpanZero,
+    Branch::ReaderLoneSpanTooLong,
+    Branch::ReaderSparePairs,
+    Branch::ReaderUnlikeSpans,
+    Branch::ReaderFreeWritten,
+];
+const UNREAD_OF_RECORD: [Branch; 7] = [
+    Branch::RecordLoneWrongCrc,
+    Branch::RecordLoneUnknownType,
+    Branch::RecordLoneSpanZero,
+    Branch::RecordLoneSpanTooLong,
+    Branch::RecordSparePairs,
+    Branch::RecordUnlikeSpans,
+    Branch::RecordFreeWritten,
+];
+
+fn branches_of_unread(sector: &[u8], branches: [Branch; 7]) -> Branches {
+    let met = walk(sector);
+    let passed: Vec<Met> = met.iter().filter(|met| met.is_unread()).copied().collect();
+    let page = !free(state(sector));
+    let lone = |cause| page && passed == [cause];
+    let spare_written = (ENTRIES..ENTRIES + 2).any(|pair| entry_state(sector, pair) == EntryState::Written);
+    let holds = [
+        lone(Met::WrongCrc),
+        lone(Met::UnknownType),
+        lone(Met::SpanZero),
+        lone(Met::SpanTooLong),
+        page && spare_written && matches!(met.last(), Some(Met::Item(_))),
+        page && written_less_spans(sector) != passed.len() as i64,
+        !page && !passed.is_empty(),
+    ];
+    held(&std::array::from_fn::<_, 7, _>(|row| (holds[row], branches[row])))
+}
+
+/// The counts in the records of a recovery that ended.
+fn branches_of_records(before: &[u8], after: &[u8]) -> Branches {
+    let page = |sector: &&[u8]| !free(state(sector));
+    let changed =
+        |(before, after): (&[u8], &[u8])| page(&before) && page(&after) && unread(before) != unread(after);
+    let counts: BTreeSet<u32> = sectors(after).map(unread).filter(|count| *count > 0).collect();
+    let mut met = held(&[
+        (sectors(before).zip(sectors(after)).any(changed), Branch::RecordUnreadChanged),
+        (counts.len() > 1, Branch::RecordsUnreadUnlike),
+    ]);
+    met.extend(sectors(after).flat_map(|sector| branches_of_unread(sector, UNREAD_OF_RECORD)));
     met
 }
 
@@ -169,6 +222,9 @@ fn branches_of_recovery(case: &Case) -> Branches {
     if outcome.result == 7 {
         met.extend(branches_of_stage(&outcome));
         met.extend(branches_of_stop(case, &outcome));
+    }
+    if ended {
+        met.extend(branches_of_records(&case.image, &outcome.image));
     }
     if !matches!(outcome.result, 1 | 2) {
         met.extend(sectors(&case.image).flat_map(branches_of_sector));
@@ -245,20 +301,22 @@ fn branches_of_reclaim(case: &Case) -> Branches {
 }
 
 fn branches_of_reader(case: &Case) -> Branches {
-    let Ok(read) = read_items(&case.image) else {
+    let Ok((items, _)) = read_items(&case.image) else {
         return BTreeSet::from([Branch::ReaderResult1]);
     };
     let conditions = [
         (true, Branch::ReaderResult0),
-        (read.is_empty(), Branch::ReaderNoItem),
+        (items.is_empty(), Branch::ReaderNoItem),
         (free(state(&case.image)), Branch::ReaderFreeSector),
     ];
-    &held(&conditions) | &branches_of_sector(&case.image)
+    let met = &held(&conditions) | &branches_of_sector(&case.image);
+    &met | &branches_of_unread(&case.image, UNREAD_OF_READER)
 }
 
 fn branches_of_listing(case: &Case) -> Branches {
     let (outcome, text) = listing(&case.image);
     let shows = |word: &str| text.split_ascii_whitespace().any(|shown| shown == word);
+    let counts = || text.lines().filter_map(|line| line.split_once("unread ").map(|(_, count)| count));
     let conditions = [
         (outcome.result == 0, Branch::ListingResult0),
         (outcome.result == 1, Branch::ListingResult1),
@@ -268,6 +326,8 @@ fn branches_of_listing(case: &Case) -> Branches {
         (shows("freeing"), Branch::ListingFreeing),
         (shows("blank"), Branch::ListingBlank),
         (shows("corrupt"), Branch::ListingCorrupt),
+        (counts().any(|count| count == "0"), Branch::ListingUnreadNone),
+        (counts().any(|count| count != "0"), Branch::ListingUnread),
     ];
     let mut met = &outcome.branches | &held(&conditions);
     if outcome.result == 0 {

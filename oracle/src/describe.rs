@@ -55,11 +55,11 @@ fn describe_outcome(parts: &mut Parts, lines: &mut Vec<String>) -> Option<()> {
     lines.push(format!("image of {} bytes", parts.counted()?.len()));
     for record in 0..parts.word()? {
         let state = parts.byte()?;
-        let numbers = (parts.word()?, parts.word()?, parts.word()?, parts.word()?, parts.word()?);
-        let (sequence, written, erased, empty, illegal) = numbers;
+        let (sequence, written, erased) = (parts.word()?, parts.word()?, parts.word()?);
+        let (empty, illegal, unread) = (parts.word()?, parts.word()?, parts.word()?);
         lines.push(format!(
             "record {record}: state {state:#X}, sequence {sequence:#X}, written {written}, \
-             erased {erased}, empty {empty}, illegal {illegal}"
+             erased {erased}, empty {empty}, illegal {illegal}, unread {unread}"
         ));
     }
     Some(())
@@ -72,6 +72,7 @@ fn describe_items(parts: &mut Parts, lines: &mut Vec<String>) -> Option<()> {
         let entry = parts.word()?;
         lines.push(format!("entry {entry}: {:02X?}", parts.bytes(32)?));
     }
+    lines.push(format!("unread {}", parts.word()?));
     Some(())
 }
 

@@ -36,6 +36,11 @@ impl Item {
         self.header[2] as usize
     }
 
+    /// The entry at which the walk goes on.
+    pub fn end(&self) -> usize {
+        self.entry + self.span()
+    }
+
     pub fn chunk_index(&self) -> u8 {
         self.header[3]
     }
@@ -100,6 +105,19 @@ pub enum Met {
     Item(Item),
 }
 
+impl Met {
+    /// Document 02, No. 7: "Written entries that the walk reached and could not take as an item".
+    pub fn is_unread(&self) -> bool {
+        match self {
+            Met::Item(_) => false,
+            Met::NotWritten(state) => slipped(Slip::IllegalUnread) && *state == EntryState::Illegal,
+            Met::WrongCrc => true,
+            Met::UnknownType => !slipped(Slip::UnknownTypeNotUnread),
+            Met::SpanZero | Met::SpanTooLong => !slipped(Slip::WrongSpanNotUnread),
+        }
+    }
+}
+
 /// "an entry is a readable item if Written, its CRC right, its type known. Where the entry is no readable
 /// item the walk goes on by one; so too where span is 0 or index + span exceeds 126. Otherwise it is an
 /// item and the walk goes on by its span."
@@ -151,11 +169,58 @@ pub fn items(sector: &[u8]) -> Vec<Item> {
     walk(sector).into_iter().filter_map(item_of).collect()
 }
 
+/// "the count of Written entries that the walk reached and could not take as an item. It is 0 for free
+/// sectors."
+pub fn unread(sector: &[u8]) -> u32 {
+    let met = if free(state(sector)) { Vec::new() } else { walk(sector) };
+    let count = met.iter().filter(|met| met.is_unread()).count();
+    other_way::unread(sector, count as u32)
+}
+
 /// "An item reader keeps the lent sector and its place on it, and hands out the next item until none is
-/// left. [..] A length other than 4,096 is result 1."
-pub fn read_items(sector: &[u8]) -> Result<Vec<Item>, u8> {
-    if sector.len() != SECTOR_BYTES {
-        return Err(1);
+/// left." It counts the unread entries that it passes.
+pub struct ItemReader<'a> {
+    sector: &'a [u8],
+    entry: usize,
+    unread: u32,
+}
+
+impl<'a> ItemReader<'a> {
+    /// "A Blank or Corrupt sector has none. A length other than 4,096 is result 1."
+    pub fn new(sector: &'a [u8]) -> Result<ItemReader<'a>, u8> {
+        if sector.len() != SECTOR_BYTES {
+            return Err(1);
+        }
+        let entry = if free(state(sector)) { ENTRIES } else { 0 };
+        Ok(ItemReader { sector, entry, unread: 0 })
     }
-    Ok(items(sector))
+}
+
+impl Iterator for ItemReader<'_> {
+    type Item = Item;
+
+    fn next(&mut self) -> Option<Item> {
+        while self.entry < ENTRIES {
+            let here = meet(self.sector, self.entry);
+            if let Met::Item(item) = here {
+                self.entry += item.span();
+                if slipped(Slip::ReaderCountsFromItem) {
+                    self.unread = 0;
+                }
+                return Some(item);
+            }
+            self.unread += u32::from(here.is_unread());
+            self.entry += 1;
+        }
+        None
+    }
+}
+
+/// All items that a reader hands out, and what it has counted when none is left. "Recovery, the item reader
+/// and the listing must agree on it": this count is the record's.
+pub fn read_items(sector: &[u8]) -> Result<(Vec<Item>, u32), u8> {
+    let mut reader = ItemReader::new(sector)?;
+    let items = reader.by_ref().collect();
+    let unread = if slipped(Slip::ReaderCountsNone) { 0 } else { reader.unread };
+    Ok((items, other_way::unread(sector, unread)))
 }

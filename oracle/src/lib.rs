@@ -25,6 +25,7 @@ pub mod other_way;
 pub mod protocol;
 pub mod random;
 pub mod reclaim;
+pub mod record;
 pub mod recover;
 pub mod sample;
 pub mod scan;
@@ -33,4 +34,5 @@ pub mod slip;
 pub mod steps;
 #[cfg(test)]
 mod tests;
+pub mod worn_profile;
 pub mod writing;

@@ -1,12 +1,14 @@
 //! The listing program.
 
+use crate::record::Record;
 use crate::recover::recover;
-use crate::sector::{Record, State, SECTOR_BYTES};
+use crate::sector::{State, SECTOR_BYTES};
 use crate::steps::Outcome;
 
-/// "Other pages read `active` or `freeing` in the place of `full`, a Corrupt sector `corrupt` alone".
+/// "Other pages read `active` or `freeing` in the place of `full`, a Corrupt sector `corrupt` alone". Document 02,
+/// No. 7: "A page's listing line ends with ` unread` and that number."
 fn line(sector: usize, record: &Record) -> String {
-    let Record { state, sequence, written, erased, empty, illegal } = record;
+    let Record { state, sequence, written, erased, empty, illegal, unread } = record;
     let word = match state {
         State::Blank => return format!("{sector} blank\n"),
         State::Corrupt => return format!("{sector} corrupt\n"),
@@ -15,7 +17,8 @@ fn line(sector: usize, record: &Record) -> String {
         State::Freeing => "freeing",
     };
     format!(
-        "{sector} {word} {sequence} written {written} erased {erased} empty {empty} illegal {illegal}\n"
+        "{sector} {word} {sequence} written {written} erased {erased} empty {empty} illegal {illegal} \
+         unread {unread}\n"
     )
 }
 

@@ -5,6 +5,7 @@ use std::io::{self, Read, Write};
 use std::process::ExitCode;
 
 use oracle::protocol::{self, Case, Operation};
+use oracle::worn_profile::worn_profile;
 use oracle::{compare, cover, generate, mutants, sample};
 
 const USAGE: &str = "oracle answer < cases > answers
@@ -13,6 +14,7 @@ oracle generate COUNT SEED [--ops 0,1,2,3] > cases
 oracle cover COUNT SEED [--ops 0,1,2,3]
 oracle compare PROGRAM COUNT SEED [--ops 0,1,2,3]
 oracle mutants [CASES ANSWERS]..
+oracle image > image
 oracle sample 0,1,2,3 > cases";
 
 /// "0,2" and the like: the operations by their numbers in the batch protocol.
@@ -75,6 +77,7 @@ fn run(mut arguments: Vec<String>) -> Result<bool, Box<dyn Error>> {
             let pairs = files.chunks(2).map(|pair| (pair[0].to_string(), pair[1].to_string()));
             return Ok(mutants::mutants(&pairs.collect::<Vec<_>>())?);
         }
+        ["image"] => io::stdout().write_all(&worn_profile())?,
         ["sample", list] => write_cases(operations_of(list)?.into_iter().flat_map(sample::sample))?,
         _ => return Err(USAGE.into()),
     }

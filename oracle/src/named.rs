@@ -1,8 +1,8 @@
-//! The cases that document 01 names, each built by hand.
+//! The cases that documents 01 and 02 name, each built by hand.
 
 use crate::items::{BLOB_INDEX, CHUNK};
 use crate::protocol::{Case, Operation};
-use crate::sector::{EntryState, ACTIVE_WORD, FREEING_WORD, FULL_WORD, SECTOR_BYTES};
+use crate::sector::{EntryState, ACTIVE_WORD, ENTRIES, ENTRY_BYTES, FREEING_WORD, FULL_WORD, SECTOR_BYTES};
 use crate::writing::{
     blank_sector, chunk_data, empty_page, index_data, key_of, set_entry, set_entry_state, Fields,
 };
@@ -55,6 +55,9 @@ pub fn active_non_copy_beside_freeing() -> Vec<u8> {
     [freeing, active, blank_sector()].concat()
 }
 
+/// The image that the listing program was first delivered with: a reclaim cut in the middle.
+const CUT_RECLAIM: &[u8] = include_bytes!("../../crates/list/data/cut_reclaim.image");
+
 /// An image that is refused for its length, with a page in it where one fits.
 fn of_length(length: usize) -> Vec<u8> {
     let mut image = page(FULL_WORD, 7, &[number_item("a", 1)]);
@@ -62,9 +65,98 @@ fn of_length(length: usize) -> Vec<u8> {
     image
 }
 
+/// Entries that the walk cannot take as an item at entry 1, each by one cause: the CRC wrong, the type not known,
+/// span 0, the span past the page by one.
+fn unread_entries() -> [[u8; ENTRY_BYTES]; 4] {
+    let fields = number_item("unread", 9);
+    let mut wrong_crc = fields.header();
+    wrong_crc[24] ^= 1;
+    let unknown_type = Fields { kind: 0x03, ..fields }.header();
+    let span_zero = Fields { span: 0, ..fields }.header();
+    let past_page = Fields { span: ENTRIES as u8, ..fields }.header();
+    [wrong_crc, unknown_type, span_zero, past_page]
+}
+
+/// A page with one unread entry, between two items.
+fn page_with_unread(
+    state_word: u32,
+    sequence: u32,
+    keys: [&str; 2],
+    unread: &[u8; ENTRY_BYTES],
+) -> Vec<u8> {
+    let [first, last] = keys.map(|key| number_item(key, 1));
+    let mut sector = page(state_word, sequence, &[first, first, last]);
+    set_entry(&mut sector, 1, unread);
+    sector
+}
+
+/// Each cause alone on its page. Of the first two stage 1 marks one Full; the third is left Freeing beside the
+/// fourth, for no sector is free.
+pub fn lone_unread() -> [Vec<u8>; 4] {
+    let [wrong_crc, unknown_type, span_zero, past_page] = unread_entries();
+    [
+        page_with_unread(ACTIVE_WORD, 3, ["a", "b"], &wrong_crc),
+        page_with_unread(ACTIVE_WORD, 4, ["c", "d"], &unknown_type),
+        page_with_unread(FREEING_WORD, 3, ["a", "b"], &span_zero),
+        page_with_unread(ACTIVE_WORD, 4, ["c", "d"], &past_page),
+    ]
+}
+
+/// A Freeing page and its copy, whose second item was torn; each has an unread entry. Recovery erases the copy, and
+/// the next one in its place has none.
+fn torn_copy() -> Vec<u8> {
+    let [wrong_crc, unknown_type, ..] = unread_entries();
+    let freeing = page_with_unread(FREEING_WORD, 3, ["a", "b"], &unknown_type);
+    let mut copy = page(ACTIVE_WORD, 4, &[number_item("a", 1); 2]);
+    set_entry(&mut copy, 1, &wrong_crc);
+    [freeing, copy].concat()
+}
+
+/// Both pairs past entry 125 Written, behind an item that ends with entry 125. The entry before it is unread.
+pub fn spare_pairs_behind_item() -> Vec<u8> {
+    let item = Fields { kind: 0x21, span: ENTRIES as u8 - 1, ..number_item("a", 1) };
+    let mut sector = page(FULL_WORD, 5, &[item; 2]);
+    set_entry(&mut sector, 0, &unread_entries()[0]);
+    (2..ENTRIES + 2).for_each(|entry| set_entry_state(&mut sector, entry, EntryState::Written));
+    sector
+}
+
+/// Corrupt by its header CRC, with Written entries of which one would be unread on a page.
+pub fn corrupt_with_written() -> Vec<u8> {
+    let mut sector = lone_unread()[0].clone();
+    sector[28] ^= 1;
+    sector
+}
+
+/// An item of which one payload entry is Written and two are not, an Illegal entry, and three unread entries: one
+/// before the item, two behind it. Written less the spans is 1.
+pub fn unmarked_payload() -> Vec<u8> {
+    let [wrong_crc, unknown_type, span_zero, _] = unread_entries();
+    let item = Fields { kind: 0x21, span: 4, ..number_item("e", 1) };
+    let mut sector = page(ACTIVE_WORD, 6, &[item; 9]);
+    let others = [(0, wrong_crc), (6, unknown_type), (7, span_zero), (8, number_item("f", 1).header())];
+    for (entry, header) in others {
+        set_entry(&mut sector, entry, &header);
+    }
+    for (entry, state) in [(3, EntryState::Empty), (4, EntryState::Erased), (5, EntryState::Illegal)] {
+        set_entry_state(&mut sector, entry, state);
+    }
+    sector
+}
+
+/// A blob index of two entries without its chunk: stage 3 erases the first of them, and the second, till then
+/// payload, is unread.
+pub fn unread_uncovered() -> Vec<u8> {
+    let index = Fields { kind: BLOB_INDEX, span: 2, data: index_data(5, 1, 0), ..number_item("a", 0) };
+    let mut sector = page(FULL_WORD, 7, &[index, index, number_item("b", 1)]);
+    set_entry(&mut sector, 1, &[0; ENTRY_BYTES]);
+    sector
+}
+
 /// "Run: lengths 0, 4,095, 4,096, 8,192, 65,536, 69,632; equal sequences; two Freeing pages; an Active
-/// non-copy beside a Freeing page", and the listing example. Recovery is run at all these lengths (65,536 is
-/// that of a generated case, see sample.rs), the others at one wrong length each, to keep the sample small.
+/// non-copy beside a Freeing page", the listing example, and the listing program's first image. Recovery is run at
+/// all these lengths (65,536 is that of a generated case, see sample.rs), the others at one wrong length each, to
+/// keep the sample small.
 fn named_images(operation: Operation) -> Vec<Vec<u8>> {
     match operation {
         Operation::Recover => vec![
@@ -79,13 +171,38 @@ fn named_images(operation: Operation) -> Vec<Vec<u8>> {
         ],
         Operation::Reclaim => vec![of_length(4096)],
         Operation::ItemReader => vec![of_length(0), of_length(4095)],
-        Operation::Listing => vec![of_length(4095), listing_example()],
+        Operation::Listing => vec![of_length(4095), listing_example(), CUT_RECLAIM.to_vec()],
+    }
+}
+
+/// Document 02, No. 7: "the count of Written entries that the walk reached and could not take as an item".
+fn unread_images(operation: Operation) -> Vec<Vec<u8>> {
+    let [wrong_crc, unknown_type, span_zero, past_page] = lone_unread();
+    match operation {
+        Operation::Recover => vec![
+            [wrong_crc, unknown_type].concat(),
+            [span_zero, past_page].concat(),
+            [corrupt_with_written(), spare_pairs_behind_item()].concat(),
+            [unmarked_payload(), unread_uncovered()].concat(),
+            torn_copy(),
+        ],
+        Operation::ItemReader => vec![
+            wrong_crc,
+            unknown_type,
+            span_zero,
+            past_page,
+            spare_pairs_behind_item(),
+            corrupt_with_written(),
+            unmarked_payload(),
+        ],
+        Operation::Listing => vec![[unmarked_payload(), spare_pairs_behind_item()].concat()],
+        Operation::Reclaim => Vec::new(),
     }
 }
 
 pub fn named_cases(operation: Operation) -> Vec<Case> {
     let case = |image| Case { operation, allowance: u64::MAX, records: 16, image };
-    named_images(operation).into_iter().map(case).collect()
+    named_images(operation).into_iter().chain(unread_images(operation)).map(case).collect()
 }
 
 /// An item of 17 entries, so of two state words, whose payload reads as items; and an Erased entry.

@@ -3,14 +3,16 @@
 use std::cmp::Reverse;
 use std::collections::{BTreeMap, BTreeSet};
 
+use crate::active_order::kept_place;
 use crate::blobs::{sound_pairs, Version, Versions};
 use crate::finish::{erase_source, is_copy};
-use crate::items::{items, walk, Item, Key, Met};
+use crate::items::{self, items, walk, Item, Key};
+use crate::record::Record;
 use crate::recover::stages;
 use crate::scan::{scan, Found, Lists, Page};
-use crate::sector::{entry_state, number, state, total, EntryState, State, ENTRIES, SECTOR_BYTES};
+use crate::sector::{entry_state, free, number, state, total, EntryState, State, ENTRIES, SECTOR_BYTES};
 use crate::slip::{slipped, Slip};
-use crate::steps::{state_words, Run, Stage, Step};
+use crate::steps::{sector_of, state_words, Run, Stage, Step};
 
 /// Blank by less than all bytes; not without these slips.
 pub fn blank(sector: &[u8]) -> bool {
@@ -27,6 +29,62 @@ pub fn key_up_to_zero(mut key: Key) -> Key {
     let end = key.iter().position(|&byte| byte == 0).unwrap_or(key.len());
     key[end..].fill(0);
     key
+}
+
+/// The sum that service staff make: Written entries less those that the items take by their spans. Below 0 where
+/// items have payload that is not Written.
+pub fn written_less_spans(sector: &[u8]) -> i64 {
+    let spans: usize = items(sector).iter().map(Item::span).sum();
+    i64::from(total(sector, EntryState::Written)) - spans as i64
+}
+
+/// Unread entries by another count; `count` without these slips.
+pub fn unread(sector: &[u8], count: u32) -> u32 {
+    if free(state(sector)) {
+        let walked = || walk(sector).iter().filter(|met| met.is_unread()).count() as u32;
+        return if slipped(Slip::FreeSectorUnread) { walked() } else { count };
+    }
+    let written = |entry: &usize| entry_state(sector, *entry) == EntryState::Written;
+    let payload = |item: &Item| (item.entry + 1..item.end()).filter(written).count() as u32;
+    if slipped(Slip::PayloadUnread) {
+        return count + items(sector).iter().map(payload).sum::<u32>();
+    }
+    if slipped(Slip::SparePairsUnread) && items(sector).iter().any(|item| item.end() == ENTRIES) {
+        return count + (ENTRIES..ENTRIES + 2).filter(written).count() as u32;
+    }
+    if slipped(Slip::WrittenLessSpans) {
+        return written_less_spans(sector).max(0) as u32;
+    }
+    count
+}
+
+/// The counts of the image after the steps, in the order that stage 1 gives the pages.
+fn unread_in_list_order(after: &[u8]) -> Vec<u32> {
+    let mut pages = scan(after).pages;
+    if let (Some(kept), Some(last)) = (kept_place(&pages), pages.len().checked_sub(1)) {
+        pages.swap(kept, last);
+    }
+    pages.iter().map(|page| items::unread(sector_of(after, page.sector))).collect()
+}
+
+/// Each page's count with those of the pages before it, or of another page, or of the image before the steps; as
+/// they are without these slips.
+pub fn count_unread(before: &[u8], after: &[u8], records: &mut [Option<Record>]) {
+    let mut kept = 0;
+    for (sector, record) in
+        records.iter_mut().flatten().enumerate().filter(|(_, record)| !free(record.state))
+    {
+        if slipped(Slip::UnreadKept) {
+            record.unread += kept;
+            kept = record.unread;
+        }
+        if slipped(Slip::UnreadByListPlace) {
+            record.unread = unread_in_list_order(after).get(sector).copied().unwrap_or(0);
+        }
+        if slipped(Slip::UnreadBeforeSteps) {
+            record.unread = items::unread(sector_of(before, sector));
+        }
+    }
 }
 
 /// State words that give each entry of a copied span the state that it had on the source.
@@ -59,7 +117,7 @@ pub fn resume_copy(run: &mut Run, lists: &mut Lists, source: &Page) -> bool {
     if !is_copy(&there, &wanted) {
         return false;
     }
-    let mut next = there.last().map_or(0, |item| item.entry + item.span());
+    let mut next = there.last().map_or(0, Item::end);
     for item in wanted.iter().skip(there.len()) {
         if next + item.span() <= ENTRIES {
             run.copy_item(source.sector, item, target, next);
@@ -146,8 +204,7 @@ pub fn taken_for_erased(sector: &[u8]) -> u32 {
         return total(sector, EntryState::Illegal);
     }
     if slipped(Slip::UnreadableCountsAsErased) {
-        let readable = |met: &Met| matches!(met, Met::Item(_) | Met::NotWritten(_));
-        return walk(sector).iter().filter(|met| !readable(met)).count() as u32;
+        return items::unread(sector);
     }
     0
 }

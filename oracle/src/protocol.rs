@@ -5,8 +5,9 @@ use std::io::{self, ErrorKind, Read};
 use crate::items::{read_items, Item};
 use crate::listing::listing;
 use crate::reclaim::reclaim;
+use crate::record::Record;
 use crate::recover::recover;
-use crate::sector::{Record, State};
+use crate::sector::State;
 use crate::steps::{Outcome, Stage};
 
 #[derive(Clone, Copy, PartialEq, Eq, PartialOrd, Ord, Debug)]
@@ -107,10 +108,13 @@ fn put_outcome(to: &mut Vec<u8>, outcome: &Outcome, records: &[Option<Record>]) 
     }
 }
 
+/// The bytes of a record.
+pub const RECORD_BYTES: usize = 25;
+
 /// A record that the call left unchanged is 0xEE in every byte.
 fn put_record(to: &mut Vec<u8>, record: &Option<Record>) {
-    let Some(Record { state, sequence, written, erased, empty, illegal }) = *record else {
-        to.extend([0xEE; 21]);
+    let Some(Record { state, sequence, written, erased, empty, illegal, unread }) = *record else {
+        to.extend([0xEE; RECORD_BYTES]);
         return;
     };
     to.push(match state {
@@ -120,17 +124,19 @@ fn put_record(to: &mut Vec<u8>, record: &Option<Record>) {
         State::Full => 3,
         State::Freeing => 4,
     });
-    for number in [sequence, written, erased, empty, illegal] {
+    for number in [sequence, written, erased, empty, illegal, unread] {
         to.extend(number.to_le_bytes());
     }
 }
 
-fn put_items(to: &mut Vec<u8>, items: Result<Vec<Item>, u8>) {
-    to.push(items.as_ref().err().copied().unwrap_or(0));
-    let items = items.unwrap_or_default();
+/// The items, then the reader's count; a refused reader has neither.
+fn put_items(to: &mut Vec<u8>, read: Result<(Vec<Item>, u32), u8>) {
+    to.push(read.as_ref().err().copied().unwrap_or(0));
+    let (items, unread) = read.unwrap_or_default();
     to.extend((items.len() as u32).to_le_bytes());
     for item in items {
         to.extend((item.entry as u32).to_le_bytes());
         to.extend(item.header);
     }
+    to.extend(unread.to_le_bytes());
 }

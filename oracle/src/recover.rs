@@ -7,8 +7,9 @@ use crate::duplicates::{duplicates, mark_filled};
 use crate::finish::finish;
 use crate::notes;
 use crate::other_way;
+use crate::record::{record, Record};
 use crate::scan::{found, greatest, scan, whole_sectors, Lists, Page};
-use crate::sector::{record, Record, State, SECTOR_BYTES};
+use crate::sector::{State, SECTOR_BYTES};
 use crate::slip::{slipped, Slip};
 use crate::steps::{call, Outcome, Run, Stage};
 
@@ -91,6 +92,7 @@ pub fn recover(image: &[u8], allowance: u64, records: &mut [Option<Record>]) -> 
         for (place, sector) in records.iter_mut().zip(read.chunks(SECTOR_BYTES)) {
             *place = Some(record(sector));
         }
+        other_way::count_unread(image, &outcome.image, records);
     }
     outcome
 }

@@ -115,30 +115,3 @@ pub fn total(sector: &[u8], wanted: EntryState) -> u32 {
     let count = (0..ENTRIES).filter(|&entry| entry_state(sector, entry) == wanted).count();
     count as u32
 }
-
-/// "state, sequence (0 if free), Written, Erased, Empty, Illegal (all 0 if free)"
-#[derive(Clone, Copy, PartialEq, Eq, Debug)]
-pub struct Record {
-    pub state: State,
-    pub sequence: u32,
-    pub written: u32,
-    pub erased: u32,
-    pub empty: u32,
-    pub illegal: u32,
-}
-
-pub fn record(sector: &[u8]) -> Record {
-    let state = state(sector);
-    if free(state) {
-        return Record { state, sequence: 0, written: 0, erased: 0, empty: 0, illegal: 0 };
-    }
-    let says_full = slipped(Slip::LeftSourceRecordedFull) && state == State::Freeing;
-    Record {
-        state: if says_full { State::Full } else { state },
-        sequence: sequence(sector),
-        written: total(sector, EntryState::Written),
-        erased: total(sector, EntryState::Erased),
-        empty: total(sector, EntryState::Empty),
-        illegal: total(sector, EntryState::Illegal),
-    }
-}

@@ -7,19 +7,23 @@ use crate::branch::Branch;
 use crate::compare::{check, decode_all};
 use crate::crc::crc;
 use crate::generate::case_of;
-use crate::items::{items, start_of_byte, walk, Met};
+use crate::items::{items, read_items, start_of_byte, unread, walk, Item, Met};
 use crate::listing::listing;
 use crate::mutants::{catches, files_of_gate, recorded};
-use crate::named::two_freeing_pages;
-use crate::named::{active_non_copy_beside_freeing, equal_sequences, listing_example, number_item, page};
+use crate::named::{
+    active_non_copy_beside_freeing, corrupt_with_written, equal_sequences, listing_example, lone_unread,
+    number_item, page, spare_pairs_behind_item, two_freeing_pages, unmarked_payload, unread_uncovered,
+};
 use crate::protocol::Operation;
 use crate::reclaim::{reclaim, Candidate};
+use crate::record::record;
 use crate::recover::recover;
 use crate::sample::own_branches;
 use crate::scan::Page;
-use crate::sector::{entry_state, state, EntryState, State, FREEING_WORD, FULL_WORD};
+use crate::sector::{entry_state, free, state, EntryState, State, FREEING_WORD, FULL_WORD, SECTOR_BYTES};
 use crate::slip::Slip;
 use crate::steps::{apply, sector_of, Stage, Step};
+use crate::worn_profile::worn_profile;
 use crate::writing::{blank_sector, set_entry, set_entry_state, Fields};
 
 fn states(image: &[u8]) -> Vec<State> {
@@ -107,8 +111,68 @@ fn the_listing_example() {
     assert_eq!(outcome.list, []);
     assert_eq!(
         text,
-        "sectors 2 result 0 steps 0\n0 blank\n1 full 7 written 3 erased 2 empty 121 illegal 0\n"
+        "sectors 2 result 0 steps 0\n0 blank\n1 full 7 written 3 erased 2 empty 121 illegal 0 unread 0\n"
     );
+}
+
+/// Each cause counts; payload, the pairs past entry 125, entries that are not Written and free sectors do not.
+#[test]
+fn unread_entries() {
+    assert_eq!(lone_unread().map(|sector| unread(&sector)), [1; 4]);
+    assert_eq!(unread(&spare_pairs_behind_item()), 1);
+    assert_eq!(unread(&corrupt_with_written()), 0);
+    assert_eq!(unread(&unmarked_payload()), 3);
+}
+
+/// A page's record is that of the image which the steps left.
+#[test]
+fn unread_after_the_steps() {
+    assert_eq!(unread(&unread_uncovered()), 0);
+    let mut records = [None; 2];
+    recover(&[unread_uncovered(), blank_sector()].concat(), u64::MAX, &mut records);
+    assert_eq!(records.map(|record| record.expect("filled").unread), [1, 0]);
+}
+
+/// Written is unread and what is Written of the items' entries; a free sector has neither.
+#[test]
+fn written_is_unread_or_inside_an_item() {
+    for number in 0..2000 {
+        for sector in case_of(1, number, &Operation::ALL).image.chunks_exact(SECTOR_BYTES) {
+            let written = |entry: &usize| entry_state(sector, *entry) == EntryState::Written;
+            let inside = |item: &Item| (item.entry..item.end()).filter(written).count() as u32;
+            let record = record(sector);
+            assert_eq!(record.written, record.unread + items(sector).iter().map(inside).sum::<u32>());
+        }
+    }
+}
+
+/// "Recovery, the item reader and the listing must agree on it."
+#[test]
+fn all_agree_on_unread() {
+    for number in 0..2000 {
+        let (outcome, text) = listing(&case_of(1, number, &[Operation::Listing]).image);
+        for (sector, line) in outcome.image.chunks_exact(SECTOR_BYTES).zip(text.lines().skip(1)) {
+            let read = read_items(sector).expect("a sector");
+            assert_eq!(read, (items(sector), record(sector).unread));
+            assert_eq!(line.ends_with(&format!(" unread {}", read.1)), !free(state(sector)));
+        }
+    }
+}
+
+/// The listing program's image is the one that is made here. Its listing is worked out by hand.
+#[test]
+fn the_worn_profile() {
+    let image = include_bytes!("../../crates/list/data/worn_profile.image");
+    assert!(worn_profile() == image);
+    let lines = [
+        "sectors 5 result 0 steps 3",
+        "0 full 41 written 106 erased 20 empty 0 illegal 0 unread 0",
+        "1 full 42 written 119 erased 7 empty 0 illegal 0 unread 30",
+        "2 corrupt",
+        "3 active 44 written 33 erased 15 empty 77 illegal 1 unread 3",
+        "4 blank",
+    ];
+    assert_eq!(listing(image).1.lines().collect::<Vec<_>>(), lines);
 }
 
 #[test]
