@@ -47,7 +47,7 @@ module _ (fs : List Found) where
       taken true m = keep-in (λ (y : Found). chunkOf (versionOf (x .raw)) (y .raw)) fs z m .0
       taken false m = absurd m
 
-  outdated-in : (g : ℕ) (z : Found) → z ∈ outdated fs g → z ∈ fs
+  pub outdated-in : (g : ℕ) (z : Found) → z ∈ outdated fs g → z ∈ fs
   unfolding outdated
   outdated-in g z m =
       let s = sortBy olderThan (members g fs) in

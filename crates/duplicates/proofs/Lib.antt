@@ -10,3 +10,5 @@ pub mod Back
 pub mod OneGroup
 pub mod Rest
 pub mod Lengths
+pub mod MarksUnread
+pub mod StageUnread

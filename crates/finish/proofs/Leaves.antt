@@ -18,7 +18,7 @@ use Rattle.lists.proofs.Sums.{greatest-ge, greatest-lt}
 use Rattle.table.specs.declared.Page.{Page}
 use Rattle.table.specs.Table.{sectorsOf, sequence, pageAt, itemsIn, activePage, inSector}
 use Rattle.table.specs.PagesPlaced.{PagesPlaced}
-use Rattle.table.proofs.Records.{sequence-below}
+use Rattle.page.proofs.Fields.{sequence-below}
 use Rattle.table.proofs.Seeking.{first-member}
 use Rattle.table.proofs.Places.{free-other, free-fits, apart-placed, freed-placed, source-placed, moved-placed, full-placed, greatest-out}
 use Rattle.finish.specs.Finish.{Round, copyOf, newest, newestHolds, nextSequence, afresh, after, roundWith, round}

@@ -53,7 +53,7 @@ fn copy_afresh(t: &CrcTable, image: &mut [u8], x: Page, table: Table, allowance:
     );
     let a = target as usize * SECTOR_BYTES;
     let e = a + SECTOR_BYTES;
-    let seen = page::page_record(t, &image[a..e]);
+    let seen = page::see(t, &image[a..e]);
     let moved = Page {
         sector: target,
         seen,

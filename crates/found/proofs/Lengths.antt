@@ -8,6 +8,7 @@ use lib.ListN.{length, length-map}
 use Rattle.entry.specs.Fields.{entryAt, spanOf}
 use Rattle.page.specs.Walk.{Laid, isItem, laidAt, onFrom, walk}
 use Rattle.page.proofs.Walking.{item-span, raw-span}
+use Rattle.page.proofs.Items.{walk-most}
 use Rattle.flash.specs.Step.{sector}
 use Rattle.item.specs.Erase.{erasing}
 use Rattle.item.proofs.Lengths.{erasing-most}
@@ -27,15 +28,6 @@ unfolding eraseAll
 length-erased xs = length-flat (λ (x : Found). erasing (x .sector) (x .entry) (spanOf (x .raw))) xs
 
 -- a walk from entry i on
-walk-most : (t : List ℕ) (n i : ℕ) → length (walk t n i) ≤ n
-unfolding walk
-walk-most t zero i = omega arith
-walk-most t (suc n) i = go (isItem t i) (walk-most t n (onFrom t i))
-  where
-    go : (b : Bool) → length (walk t n (onFrom t i)) ≤ n → length (cond b (laidAt t i ∷ walk t n (onFrom t i)) (walk t n (onFrom t i))) ≤ suc n
-    go true h = omega arith
-    go false h = omega arith
-
 walk-steps : (s : ℕ) (t : List ℕ) (n i : ℕ) → sumOf (λ (x : Laid). length (erasing s (x .entry) (spanOf (x .raw)))) (walk t n i) ≤ 126 - i
 unfolding walk sumOf
 walk-steps s t zero i = omega arith

@@ -8,3 +8,4 @@ pub mod Lying
 pub mod Keys
 pub mod Codes
 pub mod Lengths
+pub mod Thinning

@@ -13,7 +13,7 @@ use Rattle.lists.proofs.Member.{_∈_}
 use Rattle.table.specs.declared.Page.{Page}
 use Rattle.table.specs.Table.{sequence, sectorsOf, pages}
 use Rattle.table.proofs.Pages.{pages-in}
-use Rattle.table.proofs.Records.{record-sequence}
+use Rattle.page.proofs.Fields.{seen-sequence}
 use Rattle.found.specs.Places.{Lies, Alike}
 use Rattle.lists.specs.Each.{Each}
 use Rattle.lists.proofs.Each.{each-of, of-each}
@@ -42,5 +42,5 @@ pages-lie l h p i =
     record {
       sixteen = omega (arith, q .1);
       room = omega (arith, q .1);
-      told = ap sequence (q .0) ∙ record-sequence (sector (p .sector) l) (q .2);
+      told = ap sequence (q .0) ∙ seen-sequence (sector (p .sector) l) (q .2);
     }

@@ -4,3 +4,4 @@ pub mod Lines
 pub mod Example
 pub mod Room
 pub mod Fixed
+pub mod Ends

@@ -13,7 +13,8 @@ use Rattle.answer.specs.declared.Answer.{Answer}
 use Rattle.answer.specs.declared.Answer.the-variants.{Done, NotSectors, FewRecords, ActiveStands, AllWritten, NoFreeSector, SequencesSpent, Stopped}
 use Rattle.answer.specs.Answer.{numberOf}
 use Rattle.records.specs.declared.Rows.{Rows}
-use Rattle.records.specs.Records.{noRows}
+use Rattle.page.specs.Record.{recordOf}
+use Rattle.records.specs.Records.{blankRecord, noRows}
 use Rattle.records.proofs.Reading.{rows-read, rows-there}
 use Rattle.recover.specs.declared.Recovered.{Recovered}
 use Rattle.recover.specs.Promise.{rowsFor, Recovers}
@@ -59,8 +60,8 @@ module _ (m : List ℕ) (t : Rows) where
   handed-out : (a : Answer) → (numberOf a ≡ 7 → ⊥) → t ≡ rowsFor (numberOf a) m → There (linesFor a m)
   unfolding linesFor
   handed-out (Done k) u e = (
-    rw e (rows-there m (sectorsOf m)),
-    ap (λ (u : Rows). lines 0 (take (u .count) (u .rows))) e ∙ ap (lines 0) (rows-read m (sectorsOf m)),
+    rw e (rows-there recordOf m blankRecord (sectorsOf m)),
+    ap (λ (u : Rows). lines 0 (take (u .count) (u .rows))) e ∙ ap (lines 0) (rows-read recordOf m blankRecord (sectorsOf m)),
   )
   handed-out NotSectors u e = none e
   handed-out FewRecords u e = none e

@@ -1,4 +1,4 @@
--- No listing is longer than a head of 46 bytes and 16 lines of 67. Assumes nothing.
+-- No listing is longer than a head of 46 bytes and 16 lines of 78. Assumes nothing.
 use mathlib.Core.Path.{_≡_, refl, ap, subst}
 use mathlib.Core.Bool.{Bool, true, false, cond}
 use mathlib.Core.List.{List, [], _∷_, _++_}
@@ -15,7 +15,9 @@ use Rattle.page.specs.declared.state.PageState.{PageState}
 use Rattle.page.specs.declared.state.PageState.the-variants.{Blank, Corrupt, Active, Full, Freeing}
 use Rattle.page.specs.declared.«record».PageRecord.{PageRecord}
 use Rattle.page.specs.State.{isFree, stateOf}
-use Rattle.page.specs.Record.{freeRecord, usedRecord, recordOf}
+use Rattle.page.specs.Unread.{unreadFrom, unreadOf}
+use Rattle.page.specs.Record.{freeSeen, usedSeen, seenOf, withUnread, recordOf}
+use Rattle.page.proofs.Split.{unread-most}
 use Rattle.flash.specs.Step.{sector}
 use Rattle.flash.proofs.Frame.{length-run}
 use Rattle.flash.proofs.Small.{Small, run-small, part-small}
@@ -25,14 +27,14 @@ use Rattle.answer.specs.declared.Answer.{Answer}
 use Rattle.answer.specs.Answer.{numberOf, stepsOf, refusal}
 use Rattle.answer.proofs.Unused.{number-most}
 use Rattle.lists.proofs.Member.{true≢false}
-use Rattle.records.specs.Records.{recordsTo}
+use Rattle.records.specs.Records.{eachTo, recordsTo}
 use Rattle.recover.specs.Promise.{mostSteps, recoverAnswer, calling}
 use Rattle.recover.proofs.Answered.{recover-told}
 use Rattle.recover.proofs.Ends.{steps-most}
 use Rattle.io.specs.Digits.{glyph}
 use Rattle.listing.specs.Text.{word, space, newline, spelled, decimal, field}
 use Rattle.listing.specs.Listing.{stateName, counts, pageText, line, lines, head, linesFor, allowance, lent, imageAfter, answered, listing, room}
-use Rattle.records.proofs.Reading.{length-records}
+use Rattle.records.proofs.Reading.{length-each}
 use Rattle.listing.proofs.Lines.{lines-behind}
 
 -- a number below 10 ^ k has k digits at most
@@ -74,13 +76,14 @@ pub record Short (r : PageRecord) : Type 0 where
   pub erased : r .erased < 10 ^ 3
   pub empty : r .empty < 10 ^ 3
   pub illegal : r .illegal < 10 ^ 3
+  pub unread : r .unread < 10 ^ 3
 
 record-short : (t : List ℕ) → Small t → Short (recordOf t)
-unfolding recordOf totalsOf
+unfolding recordOf seenOf unreadOf totalsOf
 record-short t h = go (isFree (stateOf t))
   where
-    go : (b : Bool) → Short (cond b (freeRecord (stateOf t)) (usedRecord (stateOf t) t))
-    go true = record { sequence = omega arith; written = omega arith; erased = omega arith; empty = omega arith; illegal = omega arith }
+    go : (b : Bool) → Short (withUnread (cond b (freeSeen (stateOf t)) (usedSeen (stateOf t) t)) (cond b 0 (unreadFrom t 126 0)))
+    go true = record { sequence = omega arith; written = omega arith; erased = omega arith; empty = omega arith; illegal = omega arith; unread = omega arith }
     go false =
         record {
           sequence = omega (arith, le-four t 4, h 4, h 5, h 6, h 7);
@@ -88,6 +91,7 @@ record-short t h = go (isFree (stateOf t))
           erased = omega (arith, count-le erased (stateAt t) 126);
           empty = omega (arith, count-le empty (stateAt t) 126);
           illegal = omega (arith, count-le illegal (stateAt t) 126);
+          unread = omega (arith, unread-most t);
         }
 
 name-most : (s : PageState) → length (stateName s) ≤ 7
@@ -108,27 +112,30 @@ module _ (r : PageRecord) (h : Short r) where
       omega
       (arith, length-append w (e ++ (m ++ i)), length-append e (m ++ i), length-append m i, length-field (word "written") (r .written), length-field (word "erased") (r .erased), length-field (word "empty") (r .empty), length-field (word "illegal") (r .illegal), decimal-most (r .written) 2 (h .written), decimal-most (r .erased) 2 (h .erased), decimal-most (r .empty) 2 (h .empty), decimal-most (r .illegal) 2 (h .illegal))
 
-  page-most : length (pageText r) ≤ 56
+  page-most : length (pageText r) ≤ 67
   unfolding pageText
-  page-most = omega (arith, length-append (decimal (r .sequence)) (counts r), decimal-most (r .sequence) 9 (h .sequence), counts-most)
+  page-most =
+      let u = field (word "unread") (r .unread) in
+      omega
+      (arith, length-append (decimal (r .sequence)) (counts r ++ u), length-append (counts r) u, length-field (word "unread") (r .unread), decimal-most (r .unread) 2 (h .unread), decimal-most (r .sequence) 9 (h .sequence), counts-most)
 
-  line-most : (n : ℕ) → n < 10 ^ 2 → length (line n r) ≤ 67
+  line-most : (n : ℕ) → n < 10 ^ 2 → length (line n r) ≤ 78
   unfolding line
   line-most n k = go (isFree (r .state))
     where
-      go : (b : Bool) → length (decimal n ++ (space ++ (stateName (r .state) ++ (cond b [] (pageText r) ++ newline)))) ≤ 67
+      go : (b : Bool) → length (decimal n ++ (space ++ (stateName (r .state) ++ (cond b [] (pageText r) ++ newline)))) ≤ 78
       go true = omega (arith, length-append (decimal n) (space ++ (stateName (r .state) ++ newline)), length-append (stateName (r .state)) newline, decimal-most n 1 k, name-most (r .state))
       go false =
           omega
           (arith, length-append (decimal n) (space ++ (stateName (r .state) ++ (pageText r ++ newline))), length-append (stateName (r .state)) (pageText r ++ newline), length-append (pageText r) newline, decimal-most n 1 k, name-most (r .state), page-most)
 
 -- ---- the lines of n sectors
-lines-most : (m : List ℕ) → Small m → (n : ℕ) → n ≤ 16 → length (lines 0 (recordsTo m n)) ≤ 67 * n
-unfolding recordsTo sector
+lines-most : (m : List ℕ) → Small m → (n : ℕ) → n ≤ 16 → length (lines 0 (recordsTo m n)) ≤ 78 * n
+unfolding eachTo sector
 lines-most m h zero k = unfold lines in omega arith
 lines-most m h (suc n) k =
     let r = recordOf (sector n m) in
-    let one = line-most r (record-short (sector n m) (part-small m (n * 4096) 4096 h)) (0 + length (recordsTo m n)) (omega (arith, length-records m n)) in
+    let one = line-most r (record-short (sector n m) (part-small m (n * 4096) 4096 h)) (0 + length (recordsTo m n)) (omega (arith, length-each recordOf m n)) in
     omega (arith, ap length (lines-behind 0 (recordsTo m n) r), length-append (lines 0 (recordsTo m n)) (line (0 + length (recordsTo m n)) r), lines-most m h n (omega arith), one)
 
 -- an image that is not refused has 16 sectors at most
@@ -140,14 +147,14 @@ few-sectors l e = go (wholeSectors l) refl
     go true w = whole-is l w .1
     go false w = absurd (true≢false {b = true} refl (rw w at e))
 
-for-most : (l : List ℕ) → Small l → length (linesFor (answered l) (imageAfter l)) ≤ 1072
+for-most : (l : List ℕ) → Small l → length (linesFor (answered l) (imageAfter l)) ≤ 1248
 unfolding linesFor
 for-most l h = go (refusal (answered l)) refl
   where
     m : List ℕ
     m = imageAfter l
 
-    go : (b : Bool) → refusal (answered l) ≡ b → length (cond b [] (lines 0 (recordsTo m (sectorsOf m)))) ≤ 1072
+    go : (b : Bool) → refusal (answered l) ≡ b → length (cond b [] (lines 0 (recordsTo m (sectorsOf m)))) ≤ 1248
     go true e = omega arith
     go false e =
         let few : sectorsOf m ≤ 16 = omega (arith, few-sectors l e, length-run (take allowance (calling l lent)) l) in

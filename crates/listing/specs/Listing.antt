@@ -1,5 +1,6 @@
 -- Rule. Document 01, Cases, the listing program: its text, of the image l that was given and of its length. Read so (R40): numbers are decimal, every line
--- ends in a newline, the last too; and records enough are lent. Assumes nothing.
+-- ends in a newline, the last too; and records enough are lent. Document 02, No. 7: "A page's listing line ends with ` unread` and that number." Assumes
+-- nothing.
 use mathlib.Core.Path.{_≡_}
 use mathlib.Core.Bool.{cond}
 use mathlib.Core.List.{List, [], _∷_, _++_}
@@ -31,9 +32,9 @@ counts r =
     field (word "written") (r .written) ++
     (field (word "erased") (r .erased) ++ (field (word "empty") (r .empty) ++ field (word "illegal") (r .illegal)))
 
--- " 7 written 3 ..": the sequence stands without a name
+-- " 7 written 3 ..": the sequence stands without a name. "A page's listing line ends with ` unread` and that number."
 unfoldable pub pageText : PageRecord → List ℕ
-pageText r = space ++ (decimal (r .sequence) ++ counts r)
+pageText r = space ++ (decimal (r .sequence) ++ (counts r ++ field (word "unread") (r .unread)))
 
 -- "0 blank", "1 full 7 written 3 ..": sector n, its state and, of a page, the rest of its record
 unfoldable pub line : ℕ → PageRecord → List ℕ
@@ -73,7 +74,7 @@ listing l bytes = head (bytes / 4096) (answered l) ++ linesFor (answered l) (ima
 
 -- no listing is longer, of bytes and of a length that 64 bits hold: lent as much, the whole of it is put. Both programs lend 2,048
 abbrev pub room : ℕ
-room = 1_118
+room = 1_294
 
 -- of the image l, which became m, the listing went into the bytes xs, which became ys: the first r of them, and what has no room is left out
 pub record Listed (l : List ℕ) (bytes : ℕ) (m xs ys : List ℕ) (r : ℕ) : Type 0 where

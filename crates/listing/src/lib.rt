@@ -31,7 +31,7 @@ fn put_state(out: &mut [u8], at: usize, state: PageState) -> usize
     }
 }
 
-// What follows the state of a page: a free sector has nothing to tell.
+// How many entries of a page have each state.
 fn put_counts(out: &mut [u8], at: usize, r: PageRecord) -> usize
     requires { ⌜ at ≤ length (now out) ⌝ }
     ensures { λ to. ⌜ Put (now (out .entry)) at (counts r) (now (out .exit)) to ⌝ }
@@ -42,13 +42,15 @@ fn put_counts(out: &mut [u8], at: usize, r: PageRecord) -> usize
     put_field(out, empty, b"illegal", r.illegal as u64)
 }
 
+// What follows the state of a page: a free sector has nothing to tell.
 fn put_page(out: &mut [u8], at: usize, r: PageRecord) -> usize
     requires { ⌜ at ≤ length (now out) ⌝ }
     ensures { λ to. ⌜ Put (now (out .entry)) at (pageText r) (now (out .exit)) to ⌝ }
 {
     let space = put_byte(out, at, b' ');
     let sequence = put_number(out, space, r.sequence as u64);
-    put_counts(out, sequence, r)
+    let counts = put_counts(out, sequence, r);
+    put_field(out, counts, b"unread", r.unread as u64)
 }
 
 // One line: the sector's number, its state and, of a page, the rest of its record.
@@ -77,7 +79,7 @@ fn put_head(out: &mut [u8], sectors: u64, answer: Answer) -> usize
     put_byte(out, steps, b'\n')
 }
 
-// Recovers the image with an allowance that no list of steps reaches and puts its listing into `out`: at most 1,118 bytes. Answers how many. `bytes` is the
+// Recovers the image with an allowance that no list of steps reaches and puts its listing into `out`: at most 1,294 bytes. Answers how many. `bytes` is the
 // image's length, of which `image` may be only a part where it is longer than any image that is recovered.
 pub fn list_image(image: &mut [u8], bytes: u64, out: &mut [u8]) -> usize
     ensures { λ r. ⌜ Counts r (now (out .exit)) ⌝ }

@@ -2,5 +2,10 @@ pub mod Tests
 pub mod Walking
 pub mod Items
 pub mod Read
+pub mod Fields
 pub mod Placing
 pub mod Eight
+pub mod Unread
+pub mod Split
+pub mod Passed
+pub mod Thinned

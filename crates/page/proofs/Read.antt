@@ -16,6 +16,7 @@ use Rattle.page.specs.declared.state.PageState.{PageState}
 use Rattle.page.specs.declared.state.PageState.the-variants.{Active, Blank, Corrupt, Freeing, Full}
 use Rattle.page.specs.State.{allOnes, headerRight, isFree, sequenceOf, stateOf, wordState}
 use Rattle.page.specs.Walk.{isItem, itemsOf, walk}
+use Rattle.page.specs.Unread.{unreadFrom}
 use Rattle.page.proofs.Tests.{both-first, both-second}
 
 -- no entry of the sector is Empty
@@ -43,6 +44,12 @@ module _ (T T′ : List ℕ) (e : drop 32 T′ ≡ drop 32 T) where
   unfolding walk
   walk-same zero i = refl
   walk-same (suc n) i = rw (item-same i, at-same i, walk-same n _)
+
+  -- the entries that the walk leaves unread
+  pub unread-same : (n i : ℕ) → unreadFrom T′ n i ≡ unreadFrom T n i
+  unfolding unreadFrom
+  unread-same zero i = refl
+  unread-same (suc n) i = rw (item-same i, at-same i, state-same i, unread-same n _)
 
   -- the items, of a page and of a free sector
   pub items-same : isFree (stateOf T′) ≡ isFree (stateOf T) → itemsOf T′ ≡ itemsOf T

@@ -1,3 +1,4 @@
 pub mod State
-pub mod Record
 pub mod Walk
+pub mod Unread
+pub mod Record

@@ -1,14 +1,14 @@
 // The page record of a sector.
+use crate::seen::Seen;
 use crate::state::PageState;
-use crc::CrcTable;
 ghost use mathlib.Core.Path.{_≡_};
-ghost use lib.ListN.{length};
-ghost use Rattle.crc.specs.Table.{crcTable};
-ghost use Rattle.page.specs.Record.{recordOf};
+ghost use Rattle.page.specs.Record.{withUnread};
 
-// What is told of a sector: the numbers are 0 where it is free.
+// What is told of a sector: the numbers are 0 where it is free. `unread` counts the Written entries that the walk reaches and that are no item; it stands beside
+// the state, where a record is no larger for it.
 pub struct PageRecord {
     pub state: PageState,
+    pub unread: u8,
     pub sequence: u32,
     pub written: u8,
     pub erased: u8,
@@ -16,28 +16,18 @@ pub struct PageRecord {
     pub illegal: u8,
 }
 
-pub fn page_record(t: &CrcTable, s: &[u8]) -> PageRecord
-    requires { ⌜ (now t ≡ crcTable) × (length (now s) ≡ 4096) ⌝ }
-    ensures { λ r. ⌜ r ≡ recordOf (now (s .entry)) ⌝ }
+// What the scan saw, and what a walk counted.
+pub fn with_unread(seen: Seen, unread: u8) -> PageRecord
+    ensures { λ r. ⌜ r ≡ withUnread seen unread ⌝ }
 {
-    let state = crate::state::page_state(t, s);
-    if crate::state::is_free(state) {
-        return PageRecord {
-            state,
-            sequence: 0,
-            written: 0,
-            erased: 0,
-            empty: 0,
-            illegal: 0,
-        };
-    }
-    let totals = entry::totals_of(s);
+    let state = seen.state;
     PageRecord {
         state,
-        sequence: word::le32(s, 4),
-        written: totals.written,
-        erased: totals.erased,
-        empty: totals.empty,
-        illegal: totals.illegal,
+        unread,
+        sequence: seen.sequence,
+        written: seen.written,
+        erased: seen.erased,
+        empty: seen.empty,
+        illegal: seen.illegal,
     }
 }

@@ -5,7 +5,7 @@ use mathlib.Core.Option.{some}
 use mathlib.Core.List.{List, [], _∷_}
 use Rattle.page.specs.declared.state.PageState.{PageState}
 use Rattle.page.specs.declared.state.PageState.the-variants.{Blank, Active, Full, Freeing}
-use Rattle.page.specs.Record.{freeRecord}
+use Rattle.page.specs.Record.{freeSeen}
 use Rattle.lists.specs.Lists.{some-of}
 use Rattle.table.specs.declared.Page.{Page}
 use Rattle.table.specs.Table.{activePage}
@@ -24,7 +24,7 @@ bare s = record { sector = 0; seen = record { state = s; sequence = 0; written =
 
 -- a Blank sector with its record, were it listed
 abbrev pub blankSector : Page
-blankSector = record { sector = 0; seen = freeRecord Blank }
+blankSector = record { sector = 0; seen = freeSeen Blank }
 
 pub record Occur : Type 0 where
   -- both states occur

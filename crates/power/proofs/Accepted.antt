@@ -9,7 +9,7 @@ use lib.ListN.{getD, length}
 use borrow.Author.Tests.{le-ltb}
 use Rattle.page.specs.declared.state.PageState.{PageState}
 use Rattle.page.specs.declared.state.PageState.the-variants.{Active, Full}
-use Rattle.page.specs.Record.{recordOf}
+use Rattle.page.specs.Record.{seenOf}
 use Rattle.page.specs.State.{isFree, sequenceOf, stateOf}
 use Rattle.page.proofs.Tests.{both-first}
 use Rattle.flash.specs.Step.{sector}
@@ -70,7 +70,7 @@ module _ (L : List ℕ) (s : ℕ) (G : Good L s) (small : (i : ℕ) → getD L i
         (freeings-one L s G l D R (λ p m e. only p e (target-page L s G l D t q T p m)))
         (λ p m. low p (target-page L s G l D t q T p m)))
       where
-        W : TargetRecord M q (recordOf (sector t l))
+        W : TargetRecord M q (seenOf (sector t l))
         W = target-record L s G l D t q T M mk f
 
         only : (p : Page) → freeingPage p ≡ true → (p ≡ pageAt s l) ⊎ ((p ≡ pageAt t l) ⊎ Old L s p) → p ≡ pageAt s l

@@ -6,9 +6,9 @@ use mathlib.Core.List.{List, [], _∷_}
 use Prim.Native.Nat.{_<_, ℕ}
 use lib.ListN.{getD}
 use Rattle.page.specs.declared.state.PageState.{PageState}
-use Rattle.page.specs.declared.«record».PageRecord.{PageRecord}
+use Rattle.page.specs.declared.seen.Seen.{Seen}
 use Rattle.page.specs.declared.state.PageState.the-variants.{Full}
-use Rattle.page.specs.Record.{recordOf}
+use Rattle.page.specs.Record.{seenOf}
 use Rattle.page.specs.State.{isFree, stateOf}
 use Rattle.page.specs.Walk.{Laid, itemsOf}
 use Rattle.flash.specs.Step.{erase, sector}
@@ -38,7 +38,7 @@ module _ (L : List ℕ) (s : ℕ) (G : Good L s) (small : (i : ℕ) → getD L i
     t-not-s k = target-apart L l t q T s (G .page) (sym k)
 
     -- in whatever list the source and the target stand with such records, r and v
-    module _ (r v : PageRecord) (K : SourceRecord L s r) (W : TargetRecord Full q v) where
+    module _ (r v : Seen) (K : SourceRecord L s r) (W : TargetRecord Full q v) where
       abbrev S : Page
       S = record { sector = s; seen = r }
 
@@ -73,15 +73,15 @@ module _ (L : List ℕ) (s : ℕ) (G : Good L s) (small : (i : ℕ) → getD L i
     -- recovery from there
     pub full-runs : Runs L s l
     full-runs =
-        let r = recordOf (sector s l) in
-        let v = recordOf (sector t l) in
+        let r = seenOf (sector s l) in
+        let v = seenOf (sector t l) in
         let K = source-record L s G l D R in
         let W = target-record L s G l D t q T Full mk refl in
         let from = target-page L s G l D t q T in
-        let one-freeing = freeings-one L s G l D R (λ p m. only (recordOf (sector s l)) (recordOf (sector t l)) K W p (from p m)) in
+        let one-freeing = freeings-one L s G l D R (λ p m. only (seenOf (sector s l)) (seenOf (sector t l)) K W p (from p m)) in
         let e : plain l ≡ erase s ∷ rescan (erase s ∷ []) l =
-        rec-none l (no-kept l (λ p m. no-active (recordOf (sector s l)) (recordOf (sector t l)) K W p (from p m))) one-freeing
-        ∙ full-steps (recordOf (sector s l)) (recordOf (sector t l)) K W (pages l) (frees l) from (old-in L s G l D) (source-in L s G l D R)
+        rec-none l (no-kept l (λ p m. no-active (seenOf (sector s l)) (seenOf (sector t l)) K W p (from p m))) one-freeing
+        ∙ full-steps (seenOf (sector s l)) (seenOf (sector t l)) K W (pages l) (frees l) from (old-in L s G l D) (source-in L s G l D R)
         (target-in L s G l D t q T Full mk refl) one-freeing in
         let Z = e-done L s G small l D t q T mk E in
         record { steps = erase s ∷ []; is = e; cut = one-step L s G small l (full t q D R T mk E) (Z .0); end = Z .1 }

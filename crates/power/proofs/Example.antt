@@ -13,7 +13,7 @@ use Rattle.entry.specs.Fields.{namespaceOf, entryAt, spanOf, entryCrc, keyOf}
 use Rattle.entry.specs.Kinds.{kindOf}
 use Rattle.entry.specs.States.{one, written, stateAt, countOf, totalsOf}
 use Rattle.page.specs.declared.state.PageState.the-variants.{Full}
-use Rattle.page.specs.Record.{recordOf}
+use Rattle.page.specs.Record.{seenOf}
 use Rattle.page.specs.State.{allOnes, wordState, headerRight, stateOf}
 use Rattle.page.specs.Walk.{Laid, rightHeader, isItem, walk}
 use Rattle.flash.specs.Step.{sector, run}
@@ -99,7 +99,7 @@ abbrev full : Page
 full = record { sector = 1; seen = record { state = Full; sequence = 7; written = 3; erased = 2; empty = 121; illegal = 0 } }
 
 pages-are : pages image ≡ full ∷ []
-unfolding pages pagesTo sector stateOf allOnes headerRight wordState recordOf totalsOf countOf stateAt le crcOf crcFrom crcByte crcBits crcBit
+unfolding pages pagesTo sector stateOf allOnes headerRight wordState seenOf totalsOf countOf stateAt le crcOf crcFrom crcByte crcBits crcBit
 pages-are = refl
 
 frees-are : frees image ≡ 0 ∷ []

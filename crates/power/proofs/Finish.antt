@@ -11,7 +11,7 @@ use lib.Dec.{eqb, ltb}
 use borrow.Author.Tests.{eq-eqb, eqb-false, eqb-true, lt-ltb, ltb-true, ne-eqb}
 use Rattle.entry.specs.States.{one}
 use Rattle.page.specs.declared.state.PageState.{PageState}
-use Rattle.page.specs.declared.«record».PageRecord.{PageRecord}
+use Rattle.page.specs.declared.seen.Seen.{Seen}
 use Rattle.page.specs.declared.state.PageState.the-variants.{Active, Full}
 use Rattle.page.specs.State.{isFree, sequenceOf, stateOf}
 use Rattle.page.specs.Walk.{Laid, itemsOf}
@@ -26,7 +26,7 @@ use Rattle.lists.proofs.Member.{_∈_, true≢false}
 use Rattle.lists.proofs.Range.{sumTo-pair}
 use Rattle.table.specs.declared.Page.{Page}
 use Rattle.table.specs.Table.{activePage, freeingPage, inSector, itemsIn, pageAt, sectorsOf, sequence}
-use Rattle.table.proofs.Records.{record-sequence}
+use Rattle.page.proofs.Fields.{seen-sequence}
 use Rattle.finish.specs.Finish.{afresh, after, copyOf, holdsAll, nameOf, newest, newestHolds, nextSequence, noOlderPage, round, roundWith, sameBytes}
 use Rattle.finishing.specs.Finishing.{freeings}
 use Rattle.power.proofs.Plain.{finish, finishOn, finishWith, rescan}
@@ -41,7 +41,7 @@ pub record Seq (L : List ℕ) (q : ℕ) : Type 0 where
   pub above : (u : ℕ) → u < sectorsOf L → isFree (stateOf (sector u L)) ≡ false → sequenceOf (sector u L) < q
   pub bound : q ≤ 0xFFFFFFF0
 
-module _ (L : List ℕ) (s : ℕ) (G : Good L s) (r : PageRecord) (K : SourceRecord L s r) where
+module _ (L : List ℕ) (s : ℕ) (G : Good L s) (r : Seen) (K : SourceRecord L s r) where
   abbrev S : Page
   S = record { sector = s; seen = r }
 
@@ -72,7 +72,7 @@ module _ (L : List ℕ) (s : ℕ) (G : Good L s) (r : PageRecord) (K : SourceRec
     where
       go : (u : ℕ) → u < sectorsOf L → isFree (stateOf (sector u L)) ≡ false → (b : Bool) → eqb u s ≡ b → sequenceOf (sector u L) < nextSequence S ps
       go u h e true q = let a = K .same-sequence in rw (eqb-true u s q) (omega arith)
-      go u h e false q = let a = greatest-ge sequence ps (pageAt u L) (has u h (eqb-false u s q) e) in let b = record-sequence (sector u L) e in omega arith
+      go u h e false q = let a = greatest-ge sequence ps (pageAt u L) (has u h (eqb-false u s q) e) in let b = seen-sequence (sector u L) e in omega arith
 
       small : (p : Page) → p ∈ ps → sequence p < 0xFFFFFFF0
       small p m =
@@ -159,7 +159,7 @@ module _ (L : List ℕ) (s : ℕ) (G : Good L s) (r : PageRecord) (K : SourceRec
             two false z = inr (fresh (rw (k, z)))
 
   -- ---- a target stands in the list, with mark M
-  module _ (l : List ℕ) (t q : ℕ) (M : PageState) (v : PageRecord) (W : TargetRecord M q v) (ne : t ≡ s → ⊥) (ps : List Page) (fs : List ℕ)
+  module _ (l : List ℕ) (t q : ℕ) (M : PageState) (v : Seen) (W : TargetRecord M q v) (ne : t ≡ s → ⊥) (ps : List Page) (fs : List ℕ)
       (from : (p : Page) → p ∈ ps → (p ≡ S) ⊎ ((p ≡ record { sector = t; seen = v }) ⊎ Old L s p))
       (has : (u : ℕ) → u < sectorsOf L → (u ≡ s → ⊥) → isFree (stateOf (sector u L)) ≡ false → pageAt u L ∈ ps)
       (here : S ∈ ps) (there : record { sector = t; seen = v } ∈ ps) where

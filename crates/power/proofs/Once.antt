@@ -4,13 +4,14 @@ use mathlib.Core.Path.{_≡_, ap, refl, sym}
 use mathlib.Core.Logic.{inl, inr}
 use mathlib.Core.Bool.{Bool, cond, false, not, true}
 use mathlib.Core.List.{List, [], _∷_}
-use Prim.Native.Nat.{_+_, _<_, _≤_, suc, zero, ℕ}
+use Prim.Native.Nat.{_+_, _<_, suc, zero, ℕ}
 use native.Mathlib.Omega.{arith}
 use lib.Dec.{eqb}
 use borrow.Author.Tests.{eq-eqb, ne-eqb}
 use Rattle.page.specs.State.{isFree, stateOf}
 use Rattle.page.specs.Walk.{Laid, isItem, itemsOf, laidAt, onFrom, walk}
 use Rattle.page.proofs.Walking.{goes-on}
+use Rattle.page.proofs.Items.{walk-from}
 use Rattle.lists.specs.Lists.{keep, sumOf}
 use Rattle.lists.proofs.Search.{keep-all}
 use Rattle.lists.proofs.Member.{_∈_}
@@ -27,17 +28,6 @@ items-in t x m = go (isFree (stateOf t)) refl m
     go : (b : Bool) → isFree (stateOf t) ≡ b → x ∈ cond b [] (walk t 126 0) → (isFree (stateOf t) ≡ false) × (x ∈ walk t 126 0)
     go true e k = absurd k
     go false e k = (e, k)
-
--- the walk from entry i on meets nothing before it
-pub walk-from : (t : List ℕ) (m i : ℕ) (x : Laid) → x ∈ walk t m i → i ≤ x .entry
-unfolding walk
-walk-from t zero i x w = absurd w
-walk-from t (suc m) i x w = go (isItem t i) (onFrom t i) (goes-on t i) w (walk-from t m (onFrom t i) x)
-  where
-    go : (b : Bool) (j : ℕ) → i < j → x ∈ cond b (laidAt t i ∷ walk t m j) (walk t m j) → (x ∈ walk t m j → j ≤ x .entry) → i ≤ x .entry
-    go true j h (inl r) f = let a : x .entry ≡ i = ap (λ (y : Laid). y .entry) r in omega arith
-    go true j h (inr k) f = let a = f k in omega arith
-    go false j h k f = let a = f k in omega arith
 
 module _ (t : List ℕ) (f : Laid → ℕ) (x : Laid) where
   walk-but : (m i : ℕ) → x ∈ walk t m i → sumOf f (but (x .entry) (walk t m i)) + f x ≡ sumOf f (walk t m i)

@@ -12,7 +12,7 @@ use borrow.Author.Tests.{eqb-false, eqb-true}
 use Rattle.entry.specs.States.{one}
 use Rattle.page.specs.declared.state.PageState.{PageState}
 use Rattle.page.specs.declared.state.PageState.the-variants.{Active, Blank, Corrupt, Freeing, Full}
-use Rattle.page.specs.Record.{recordOf}
+use Rattle.page.specs.Record.{seenOf}
 use Rattle.page.specs.State.{isFree, stateOf}
 use Rattle.page.specs.Walk.{Laid, itemsOf}
 use Rattle.flash.specs.Step.{Step, erase, run, sector}
@@ -25,7 +25,7 @@ use Rattle.lists.proofs.Search.{best-only, in-keep, keep-in}
 use Rattle.lists.proofs.Member.{_∈_, true≢false}
 use Rattle.table.specs.declared.Page.{Page}
 use Rattle.table.specs.Table.{active, activePage, asFull, freeing, freeingPage, frees, inSector, itemsIn, pageAt, pages, sectorsOf}
-use Rattle.table.proofs.Scanning.{record-state}
+use Rattle.page.proofs.Fields.{seen-state}
 use Rattle.table.proofs.Pages.{in-pages, once, page-empty, page-state, listed-items}
 use Rattle.order.specs.Order.{kept, noEmpty, ordered, ordering}
 use Rattle.finish.specs.Finish.{copyOf}
@@ -62,10 +62,10 @@ module _ (L : List ℕ) (s : ℕ) (G : Good L s) (small : (i : ℕ) → getD L i
     abbrev N : Page
     N = pageAt t l
 
-    K : SourceRecord L s (recordOf (sector s l))
+    K : SourceRecord L s (seenOf (sector s l))
     K = source-record L s G l D R
 
-    W : TargetRecord Active q (recordOf (sector t l))
+    W : TargetRecord Active q (seenOf (sector t l))
     W = target-record L s G l D t q T Active mk refl
 
     not-s : t ≡ s → ⊥
@@ -114,7 +114,7 @@ module _ (L : List ℕ) (s : ℕ) (G : Good L s) (small : (i : ℕ) → getD L i
         one-of : (u : ℕ) → u < sectorsOf l → active (stateOf (sector u l)) ≡ true → u ≡ t
         one-of u h e =
             let m = in-pages l u h (not-free (stateOf (sector u l)) e) in
-            ap {B = ℕ} (λ (p : Page). p .sector) (is-active (pageAt u l) (from (pageAt u l) m) (rw (record-state (sector u l)) e))
+            ap {B = ℕ} (λ (p : Page). p .sector) (is-active (pageAt u l) (from (pageAt u l) m) (rw (seen-state (sector u l)) e))
 
     keeps : kept (pages l) ≡ some N
     unfolding kept
@@ -136,7 +136,7 @@ module _ (L : List ℕ) (s : ℕ) (G : Good L s) (small : (i : ℕ) → getD L i
     source-q = O .others S (source-in L s G l D R) S-active
 
     old-q : (u : ℕ) → u < n → (u ≡ s → ⊥) → isFree (stateOf (sector u L)) ≡ false → pageAt u L ∈ qs
-    old-q u h k e = O .others (pageAt u L) (old-in L s G l D u h k e) (rw (record-state (sector u L), G .fulls u h e))
+    old-q u h k e = O .others (pageAt u L) (old-in L s G l D u h k e) (rw (seen-state (sector u L), G .fulls u h e))
 
     from-q : (p : Page) → p ∈ qs → (p ≡ S) ⊎ ((p ≡ keptAs N) ⊎ Old L s p)
     from-q p m =
@@ -207,14 +207,14 @@ module _ (L : List ℕ) (s : ℕ) (G : Good L s) (small : (i : ℕ) → getD L i
         let cp : copyOf (itemsIn t l) (itemsIn s l) ≡ true =
         rw (listed-items t l (rw mk), listed-items s l (rw (R .state))) (copy-is (itemsOf (sector t l)) (itemsOf (sector s l)) (λ y m. let r = P .sub y m in (r .0, rw (R .items) (r .1), r .2))) in
         let r =
-        part-round L s G (recordOf (sector s l)) K l t q Active (recordOf (sector t l)) W not-s qs (frees l) which old-q source-q (rw kn at (O .itself)) refl
+        part-round L s G (seenOf (sector s l)) K l t q Active (seenOf (sector t l)) W not-s qs (frees l) which old-q source-q (rw kn at (O .itself)) refl
         (T .was) sm so cp
         (listed-items s lt (rw (x-source .state)) ∙ x-source .items) in
         let mv = move-runs L s G small lt x-side x-source t (T .here) (T .was) x-free t (r .0) (T .here) x-free-t (r .1) in
         let f = erase t ∷ moving s t (r .0) X lt in
         let Z : Final L (run (erase t ∷ moving s t (r .0) X lt) l) = rw (run-one (erase t) (moving s t (r .0) X lt) l) (mv .1) in
         let e1 : finishOn qs (frees l) l ≡ f ++ rescan f l =
-        finish-one L s G (recordOf (sector s l)) K qs (frees l) l source-q (λ p m z. is-freeing p (which p m) z) one-q ∙ rw (r .2) in
+        finish-one L s G (seenOf (sector s l)) K qs (frees l) l source-q (λ p m z. is-freeing p (which p m) z) one-q ∙ rw (r .2) in
         let e : plain l ≡ f ++ rescan f l = rec-some l one-q ∙ rw (k0, run-nil l) e1 in
         record { steps = f; is = e; cut = cuts-of (moving s t (r .0) X lt) (mv .0); end = Z }
       where
@@ -266,7 +266,7 @@ module _ (L : List ℕ) (s : ℕ) (G : Good L s) (small : (i : ℕ) → getD L i
         let which : (p : Page) → p ∈ qs → (p ≡ S) ⊎ ((p ≡ asFull N) ⊎ Old L s p) = (λ p m. ⊎-elim (λ k. inl k) (λ k. inr (⊎-elim (λ z. inl (z ∙ kn)) (λ z. inr z) k)) (from-q p m)) in
         let marked : TargetRecord Full q (asFull N .seen) = record { in-state = refl; has-sequence = W .has-sequence } in
         let e2 : finishOn qs (frees l) lf ≡ erase s ∷ rescan (erase s ∷ []) lf =
-        full-steps L s G small lf t q m-side m-source m-target is-full E (recordOf (sector s l)) (asFull N .seen) K marked qs (frees l) which old-q source-q
+        full-steps L s G small lf t q m-side m-source m-target is-full E (seenOf (sector s l)) (asFull N .seen) K marked qs (frees l) which old-q source-q
         (rw kn at (O .itself)) one-q in
         let f = markFull t ∷ (erase s ∷ []) in
         let e : plain l ≡ markFull t ∷ (erase s ∷ rescan (markFull t ∷ (erase s ∷ [])) l) = rec-some l one-q ∙ rw (k0, e2, run-one (markFull t) (erase s ∷ []) l) in

@@ -11,7 +11,7 @@ use borrow.Author.Tests.{eq-eqb, ltb-true}
 use Rattle.entry.specs.States.{one}
 use Rattle.entry.specs.Fields.{entryAt, namespaceOf, spanOf}
 use Rattle.page.specs.declared.state.PageState.the-variants.{Full}
-use Rattle.page.specs.Record.{recordOf}
+use Rattle.page.specs.Record.{seenOf}
 use Rattle.page.specs.State.{isFree, sequenceOf, stateOf}
 use Rattle.page.specs.Walk.{Laid}
 use Rattle.page.proofs.Tests.{both-is, neither-first, neither-second}
@@ -23,9 +23,8 @@ use Rattle.lists.proofs.Maps.{flatMap-in, map-in}
 use Rattle.lists.proofs.Member.{_∈_, true≢false}
 use Rattle.table.specs.declared.Page.{Page}
 use Rattle.table.specs.Table.{activePage, freeing, freeingPage, itemsIn, pageAt, pages, sectorsOf, sequence}
-use Rattle.table.proofs.Scanning.{record-state}
 use Rattle.table.proofs.Pages.{in-pages}
-use Rattle.table.proofs.Records.{record-sequence}
+use Rattle.page.proofs.Fields.{seen-sequence, seen-state}
 use Rattle.found.specs.Found.{Found, found, foundOn, isPart}
 use Rattle.found.proofs.Keys.{key-lt}
 use Rattle.flash.proofs.Small.{part-small}
@@ -56,7 +55,7 @@ module _ (L : List ℕ) (S : Premises L) where
   pub state-of : (u : ℕ) → u < n → Still (stateOf (sector u L))
   state-of u h = still-else (stateOf (sector u L)) (λ e.
       let m = in-pages L u h e in
-      let r = record-state (sector u L) in
+      let r = seen-state (sector u L) in
       (rw r at (no-active (pageAt u L) m), rw r at (no-freeing (pageAt u L) m)))
 
   is-full : (u : ℕ) → u < n → isFree (stateOf (sector u L)) ≡ false → stateOf (sector u L) ≡ Full
@@ -65,8 +64,8 @@ module _ (L : List ℕ) (S : Premises L) where
   below-at : (u : ℕ) → u < n → isFree (stateOf (sector u L)) ≡ false → sequenceOf (sector u L) < 0xFFFFFFF0
   below-at u h f =
       let a = every-of (λ (p : Page). ltb (sequence p) 0xFFFFFFF0) (pages L) (S .below) (pageAt u L) (in-pages L u h f) in
-      let b = ltb-true (recordOf (sector u L) .sequence) 0xFFFFFFF0 a in
-      let c = record-sequence (sector u L) f in
+      let b = ltb-true (seenOf (sector u L) .sequence) 0xFFFFFFF0 a in
+      let c = seen-sequence (sector u L) f in
       omega arith
 
   -- what the proof takes of the store, with a page s of it as source

@@ -11,7 +11,7 @@ use lib.ListN.{length, take}
 use lib.Seq.{take-nil}
 use borrow.Author.Tests.{eqb-true, ltb-true}
 use Rattle.entry.specs.States.{countState}
-use Rattle.page.specs.declared.«record».PageRecord.{PageRecord}
+use Rattle.page.specs.declared.seen.Seen.{Seen}
 use Rattle.page.specs.State.{isFree, stateOf}
 use Rattle.page.specs.Walk.{itemsOf}
 use Rattle.flash.specs.Step.{Step, erase, run, sector}
@@ -27,7 +27,7 @@ use Rattle.lists.proofs.Member.{_∈_, true≢false}
 use Rattle.table.specs.declared.Page.{Page}
 use Rattle.table.specs.Table.{activePage, frees, itemsIn, pageAt, pages, sectorsOf, sequence, wholeSectors}
 use Rattle.table.proofs.Pages.{frees-in, in-pages, page-erased, pages-in, listed-items}
-use Rattle.table.proofs.Records.{record-sequence}
+use Rattle.page.proofs.Fields.{seen-sequence}
 use Rattle.answer.specs.declared.Answer.the-variants.{ActiveStands, SequencesSpent}
 use Rattle.plan.specs.declared.Plan.the-variants.{Clear, Move, Refuse}
 use Rattle.plan.specs.Plan.{chosen, next, plan, planTo, planWith}
@@ -104,7 +104,7 @@ module _ (L : List ℕ) (S : Premises L) where
     next-above : Seq L (next (pages L))
     next-above =
         record {
-          above = λ u a f. (let z = greatest-ge sequence (pages L) (pageAt u L) (in-pages L u a f) in let y = record-sequence (sector u L) f in omega arith);
+          above = λ u a f. (let z = greatest-ge sequence (pages L) (pageAt u L) (in-pages L u a f) in let y = seen-sequence (sector u L) f in omega arith);
           bound = greatest-lt sequence (pages L) 0xFFFFFFF0 (omega arith) at;
         }
       where
@@ -131,7 +131,7 @@ module _ (L : List ℕ) (S : Premises L) where
         go false = moved-reach t e c
 
   -- the plan for the chosen page, of which the record is r
-  with-reach : (c s : ℕ) (r : PageRecord) → s < n → isFree (stateOf (sector s L)) ≡ false → r .erased ≡ countState (sector s L) 0
+  with-reach : (c s : ℕ) (r : Seen) → s < n → isFree (stateOf (sector s L)) ≡ false → r .erased ≡ countState (sector s L) 0
       → Reach (run (take c (planSteps L (planWith (pages L) (frees L) (some (record { sector = s; seen = r }))))) L)
   unfolding planWith planSteps
   with-reach c s r h p k = go (eqb (r .erased) 126) refl

@@ -9,9 +9,9 @@ use lib.ListN.{length}
 use borrow.Author.Tests.{eqb-false, eqb-true}
 use Rattle.entry.specs.States.{one}
 use Rattle.page.specs.declared.state.PageState.{PageState}
-use Rattle.page.specs.declared.«record».PageRecord.{PageRecord}
+use Rattle.page.specs.declared.seen.Seen.{Seen}
 use Rattle.page.specs.declared.state.PageState.the-variants.{Active, Freeing, Full}
-use Rattle.page.specs.Record.{recordOf}
+use Rattle.page.specs.Record.{seenOf}
 use Rattle.page.specs.State.{isFree, sequenceOf, stateOf}
 use Rattle.page.specs.Walk.{itemsOf}
 use Rattle.flash.specs.Step.{sector}
@@ -19,9 +19,8 @@ use Rattle.lists.proofs.Member.{_∈_, true≢false}
 use Rattle.lists.proofs.Range.{sumTo-at}
 use Rattle.table.specs.declared.Page.{Page}
 use Rattle.table.specs.Table.{freeingPage, pageAt, pages, sectorsOf, sequence}
-use Rattle.table.proofs.Scanning.{record-state}
 use Rattle.table.proofs.Pages.{in-pages, pages-in, sum-pages}
-use Rattle.table.proofs.Records.{record-sequence}
+use Rattle.page.proofs.Fields.{seen-sequence, seen-state}
 use Rattle.finish.specs.Finish.{nameOf, sameBytes}
 use Rattle.finishing.specs.Finishing.{freeings}
 use Rattle.power.specs.Demand3.{total}
@@ -83,12 +82,12 @@ pub target-apart : (L l : List ℕ) (t q : ℕ) → Target L l t q → (u : ℕ)
 target-apart L l t q T u e k = true≢false (T .was) (rw k at e)
 
 -- what the list says of the source
-pub record SourceRecord (L : List ℕ) (s : ℕ) (r : PageRecord) : Type 0 where
+pub record SourceRecord (L : List ℕ) (s : ℕ) (r : Seen) : Type 0 where
   pub is-freeing : r .state ≡ Freeing
   pub same-sequence : r .sequence ≡ sequenceOf (sector s L)
 
 -- and of a target in the state M
-pub record TargetRecord (M : PageState) (q : ℕ) (r : PageRecord) : Type 0 where
+pub record TargetRecord (M : PageState) (q : ℕ) (r : Seen) : Type 0 where
   pub in-state : r .state ≡ M
   pub has-sequence : r .sequence ≡ q
 
@@ -99,12 +98,12 @@ module _ (L : List ℕ) (s : ℕ) where
 
   -- what the record of an old page says
   pub old-sequence : (p : Page) → Old p → sequence p ≡ sequenceOf (sector (p .sector) L)
-  old-sequence p k = ap {B = ℕ} (λ (z : Page). sequence z) (k .0) ∙ record-sequence (sector (p .sector) L) (k .3)
+  old-sequence p k = ap {B = ℕ} (λ (z : Page). sequence z) (k .0) ∙ seen-sequence (sector (p .sector) L) (k .3)
 
   module _ (G : Good L s) where
     -- an old page is Full
     pub old-full : (p : Page) → Old p → p .seen .state ≡ Full
-    old-full p k = ap {B = PageState} (λ (z : Page). z .seen .state) (k .0) ∙ record-state (sector (p .sector) L) ∙ G .fulls (p .sector) (k .1) (k .3)
+    old-full p k = ap {B = PageState} (λ (z : Page). z .seen .state) (k .0) ∙ seen-state (sector (p .sector) L) ∙ G .fulls (p .sector) (k .1) (k .3)
 
     module _ (l : List ℕ) (D : Side L l s) where
       -- there are as many sectors
@@ -113,7 +112,7 @@ module _ (L : List ℕ) (s : ℕ) where
 
       -- an old page is listed as it was
       pub old-page : (u : ℕ) → u < sectorsOf L → (u ≡ s → ⊥) → isFree (stateOf (sector u L)) ≡ false → pageAt u l ≡ pageAt u L
-      old-page u h ne e = ap (λ (T : List ℕ). record { sector = u; seen = recordOf T }) (D .kept u h ne e)
+      old-page u h ne e = ap (λ (T : List ℕ). record { sector = u; seen = seenOf T }) (D .kept u h ne e)
 
       pub old-in : (u : ℕ) → u < sectorsOf L → (u ≡ s → ⊥) → isFree (stateOf (sector u L)) ≡ false → pageAt u L ∈ pages l
       old-in u h ne e = rw (old-page u h ne e) at (in-pages l u (rw n-same h) (rw (D .kept u h ne e) e))
@@ -126,14 +125,14 @@ module _ (L : List ℕ) (s : ℕ) where
           (r .0 ∙ old-page (p .sector) h ne e, h, ne, e)
 
       -- the source and the target in the list
-      pub source-record : Source L l s → SourceRecord L s (recordOf (sector s l))
-      source-record S = record { is-freeing = record-state (sector s l) ∙ S .state; same-sequence = record-sequence (sector s l) (rw (S .state)) ∙ S .seq }
+      pub source-record : Source L l s → SourceRecord L s (seenOf (sector s l))
+      source-record S = record { is-freeing = seen-state (sector s l) ∙ S .state; same-sequence = seen-sequence (sector s l) (rw (S .state)) ∙ S .seq }
 
       pub source-in : Source L l s → pageAt s l ∈ pages l
       source-in S = in-pages l s (rw n-same (G .here)) (rw (S .state))
 
-      pub target-record : (t q : ℕ) → Target L l t q → (M : PageState) → stateOf (sector t l) ≡ M → isFree M ≡ false → TargetRecord M q (recordOf (sector t l))
-      target-record t q T M e f = record { in-state = record-state (sector t l) ∙ e; has-sequence = record-sequence (sector t l) (rw e f) ∙ T .seq }
+      pub target-record : (t q : ℕ) → Target L l t q → (M : PageState) → stateOf (sector t l) ≡ M → isFree M ≡ false → TargetRecord M q (seenOf (sector t l))
+      target-record t q T M e f = record { in-state = seen-state (sector t l) ∙ e; has-sequence = seen-sequence (sector t l) (rw e f) ∙ T .seq }
 
       pub target-in : (t q : ℕ) → Target L l t q → (M : PageState) → stateOf (sector t l) ≡ M → isFree M ≡ false → pageAt t l ∈ pages l
       target-in t q T M e f = in-pages l t (rw n-same (T .here)) (rw e f)

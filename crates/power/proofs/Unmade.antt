@@ -8,7 +8,7 @@ use lib.Dec.{eqb}
 use lib.ListN.{getD, take}
 use borrow.Author.Tests.{eqb-false, eqb-true}
 use Rattle.page.specs.declared.state.PageState.the-variants.{Freeing}
-use Rattle.page.specs.Record.{recordOf}
+use Rattle.page.specs.Record.{seenOf}
 use Rattle.page.specs.State.{isFree, stateOf}
 use Rattle.page.specs.Walk.{Laid, itemsOf}
 use Rattle.flash.specs.Step.{Step, blank, erase, run, sector}
@@ -47,7 +47,7 @@ module _ (L : List ℕ) (s : ℕ) (G : Good L s) (small : (i : ℕ) → getD L i
     abbrev S : Page
     S = pageAt s l
 
-    K : SourceRecord L s (recordOf (sector s l))
+    K : SourceRecord L s (seenOf (sector s l))
     K = source-record L s G l D R
 
     from : (p : Page) → p ∈ pages l → (p ≡ S) ⊎ Old L s p
@@ -69,7 +69,7 @@ module _ (L : List ℕ) (s : ℕ) (G : Good L s) (small : (i : ℕ) → getD L i
     -- recovery's steps are those of the one round, and what comes after
     by : (f : List Step) → (round S (pages l) (frees l) l) .steps ≡ f → plain l ≡ f ++ rescan f l
     by f e =
-        rec-none l (no-kept l no-active) one-freeing ∙ finish-one L s G (recordOf (sector s l)) K (pages l) (frees l) l here only one-freeing ∙ rw e
+        rec-none l (no-kept l no-active) one-freeing ∙ finish-one L s G (seenOf (sector s l)) K (pages l) (frees l) l here only one-freeing ∙ rw e
 
     state : State L s l
     state = junk D R t0 h0 w0 F
@@ -120,4 +120,4 @@ module _ (L : List ℕ) (s : ℕ) (G : Good L s) (small : (i : ℕ) → getD L i
         (λ c.
         let mv = move-runs (la .0) (c .0) (rw nl at (fr .0)) (fr .1) (c .1) in
         record { steps = moving s (la .0) (c .0) X l; is = by (moving s (la .0) (c .0) X l) (c .2); cut = mv .0; end = mv .1 })
-        (junk-round L s G (recordOf (sector s l)) K l D R (pages l) (frees l) from (old-in L s G l D) here (la .0) (la .1))
+        (junk-round L s G (seenOf (sector s l)) K l D R (pages l) (frees l) from (old-in L s G l D) here (la .0) (la .1))

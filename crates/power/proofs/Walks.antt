@@ -4,10 +4,9 @@ use mathlib.Core.Path.{_∙_, _≡_, ap, refl, sym}
 use mathlib.Core.Logic.{_⊎_, inl, inr, ⊎-elim}
 use mathlib.Core.Bool.{Bool, cond, false, true}
 use mathlib.Core.List.{List, _∷_}
-use Prim.Native.Nat.{_*_, _+_, _<_, _≤_, suc, zero, ℕ}
+use Prim.Native.Nat.{_+_, _<_, _≤_, suc, zero, ℕ}
 use native.Mathlib.Omega.{arith}
 use lib.ListN.{drop}
-use lib.Seq.{drop-drop}
 use borrow.Author.Tests.{eq-eqb, ne-eqb}
 use Rattle.entry.specs.States.{stateAt}
 use Rattle.entry.specs.Fields.{entryAt, spanOf}
@@ -16,8 +15,9 @@ use Rattle.page.specs.Walk.{Laid, isItem, itemsOf, laidAt, onFrom, walk}
 use Rattle.page.proofs.Walking.{goes-on, item-span, walk-item, walk-past, walk-skip}
 use Rattle.lists.specs.Lists.{keep}
 use Rattle.lists.proofs.Member.{_∈_}
-use Rattle.page.proofs.Items.{no-item}
-use Rattle.power.proofs.Once.{but, items-in, walk-from}
+use Rattle.page.proofs.Items.{no-item, walk-from}
+use Rattle.page.proofs.Thinned.{at-same, item-same}
+use Rattle.power.proofs.Once.{but, items-in}
 
 -- a turn of the walk, and what is left of it without entry e
 module _ (t : List ℕ) (e m : ℕ) where
@@ -35,13 +35,6 @@ module _ (t : List ℕ) (e m : ℕ) where
 
 -- T as it was and U as it is: from byte 64 on they are the same
 module _ (T U : List ℕ) (rest : drop 64 U ≡ drop 64 T) where
-  at-same : (i : ℕ) → drop (64 + i * 32) U ≡ drop (64 + i * 32) T
-  at-same i = sym (drop-drop (i * 32) 64 U) ∙ ap (drop (i * 32)) rest ∙ drop-drop (i * 32) 64 T
-
-  item-same : (i : ℕ) → stateAt U i ≡ stateAt T i → isItem U i ≡ isItem T i
-  unfolding isItem
-  item-same i s = rw (at-same i, s)
-
   -- the item at entry e, of span n; the states of the other entries are the same
   module _ (e n : ℕ) (is : isItem T e ≡ true) (span : spanOf (entryAt T e) ≡ n)
       (same : (i : ℕ) → (i < e) ⊎ (e + n ≤ i) → stateAt U i ≡ stateAt T i) where
@@ -71,7 +64,7 @@ module _ (T U : List ℕ) (rest : drop 64 U ≡ drop 64 T) where
       walk-kept (suc m) i w = go (turn m i w) (walk-kept m)
         where
           step : stateAt U i ≡ stateAt T i → walk U m (onFrom T i) ≡ walk T m (onFrom T i) → walk U (suc m) i ≡ walk T (suc m) i
-          step s q = rw (item-same i s, at-same i, q)
+          step s q = rw (item-same T U rest i s, at-same T U rest i, q)
 
           go : Turn m i (onFrom T i) → ((j : ℕ) → Met m j → walk U m j ≡ walk T m j) → walk U (suc m) i ≡ walk T (suc m) i
           go (inl q) ih = step (rw q head) (ih (onFrom T i) (inr (rw (q, is) (omega arith))))
@@ -96,7 +89,7 @@ module _ (T U : List ℕ) (rest : drop 64 U ≡ drop 64 T) where
         where
           step : (b : Bool) → isItem T i ≡ b → isItem U i ≡ b → (i ≡ e → ⊥) → walk U 126 (onFrom T i) ≡ but e (walk T m (onFrom T i))
               → walk U 126 i ≡ but e (walk T (suc m) i)
-          step true p q ne ih = walk-item U i q ∙ rw (at-same i) (ap {B = List Laid} (λ (r : List Laid). laidAt T i ∷ r) (rw p at ih)) ∙ sym (but-other T e m i p ne)
+          step true p q ne ih = walk-item U i q ∙ rw (at-same T U rest i) (ap {B = List Laid} (λ (r : List Laid). laidAt T i ∷ r) (rw p at ih)) ∙ sym (but-other T e m i p ne)
           step false p q ne ih = walk-skip U i q ∙ (rw p at ih) ∙ sym (but-none T e m i p)
 
           go : Turn m i (onFrom T i) → i < onFrom T i → ((j : ℕ) → 126 ≤ j + m → Met m j → walk U 126 j ≡ but e (walk T m j))
@@ -107,7 +100,7 @@ module _ (T U : List ℕ) (rest : drop 64 U ≡ drop 64 T) where
           go (inr r) g ih =
               let s = item-span T e is in
               let ne : (i ≡ e → ⊥) = (λ q. ⊎-elim (λ h. omega arith) (λ h. omega arith) (r .0)) in
-              step (isItem T i) refl (item-same i (same i (r .0))) ne (ih (onFrom T i) (omega arith) (r .1))
+              step (isItem T i) refl (item-same T U rest i (same i (r .0))) ne (ih (onFrom T i) (omega arith) (r .1))
 
       -- the same but this one
       pub items-gone : laidAt T e ∈ itemsOf T → stateOf U ≡ stateOf T → itemsOf U ≡ but e (itemsOf T)

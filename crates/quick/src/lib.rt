@@ -19,6 +19,7 @@ ghost use Rattle.table.specs.Table.{listed, Sized};
 ghost use Rattle.found.specs.Found.{found};
 ghost use Rattle.found.specs.Places.{placeOf, Lies};
 ghost use Rattle.lists.specs.Each.{Each};
+ghost use Rattle.records.specs.Notes.{Noted};
 ghost use Rattle.quick.specs.Calm.{Calm, tot};
 ghost use Rattle.quick.specs.Slots.{Leads};
 ghost use Rattle.quick.specs.Fits.{Named};
@@ -26,10 +27,11 @@ ghost use Rattle.quick.specs.Fits.{Named};
 // The slots: some two for each item that an image can hold.
 pub const SLOTS: usize = 4096;
 
-// Fills the table page by page, so that a list of one page's places is enough. Says whether no two judged items have the same name.
-fn fill_all(t: &CrcTable, image: &[u8], table: Table, slots: &mut [u16]) -> bool
-    requires { ⌜ (now t ≡ crcTable) × Sized table × Each (Lies (now image)) (listed table) × (4096 ≤ length (now slots)) ⌝ }
-    ensures { λ r. ⌜ (r ≡ true → Leads (now (slots .exit)) (now (image .entry)) × Named (now (slots .exit)) (now (image .entry)) (map placeOf (found (listed table) (now (image .entry))))) ⌝ }
+// Fills the table page by page, so that a list of one page's places is enough, and notes what each walk counted. Says whether no two judged items have the
+// same name.
+fn fill_all(t: &CrcTable, image: &[u8], table: Table, slots: &mut [u16], notes: &mut [u16]) -> bool
+    requires { ⌜ (now t ≡ crcTable) × Sized table × Each (Lies (now image)) (listed table) × (4096 ≤ length (now slots)) × Noted (now notes) (now image) ⌝ }
+    ensures { λ r. ⌜ (r ≡ true → Leads (now (slots .exit)) (now (image .entry)) × Named (now (slots .exit)) (now (image .entry)) (map placeOf (found (listed table) (now (image .entry))))) × Noted (now (notes .exit)) (now (image .entry)) ⌝ }
 {
     slots::clear(slots);
     let count = table.count;
@@ -40,13 +42,15 @@ fn fill_all(t: &CrcTable, image: &[u8], table: Table, slots: &mut [u16]) -> bool
         let sector = p.sector as usize;
         let a = sector * SECTOR_BYTES;
         let e = a + SECTOR_BYTES;
-        let k = page::places(
+        let walked = page::places(
             t,
             &image[a..e],
             sector * SECTOR_PLACES + FIRST_PLACE,
             &mut places,
             0,
         );
+        notes[sector] = walked.unread as u16 + 1;
+        let k = walked.end;
         if !slots::fill(image, &places[..k], slots) {
             return false;
         }
@@ -55,12 +59,20 @@ fn fill_all(t: &CrcTable, image: &[u8], table: Table, slots: &mut [u16]) -> bool
     true
 }
 
-// True only where no step of the two stages is to be made; where it is false, the stages decide. `slots` is overwritten.
-pub fn is_calm(t: &CrcTable, image: &[u8], table: Table, slots: &mut [u16]) -> bool
-    requires { ⌜ (now t ≡ crcTable) × Sized table × Each (Lies (now image)) (listed table) × (4096 ≤ length (now slots)) ⌝ }
-    ensures { λ r. ⌜ (r ≡ true → Calm (λ f. tot f (found (listed table) (now (image .entry))))) ⌝ }
+// True only where no step of the two stages is to be made; where it is false, the stages decide. `slots` is overwritten, and `notes` by what was counted of the
+// pages that were walked.
+pub fn is_calm(
+    t: &CrcTable,
+    image: &[u8],
+    table: Table,
+    slots: &mut [u16],
+    notes: &mut [u16],
+) -> bool
+    requires { ⌜ (now t ≡ crcTable) × Sized table × Each (Lies (now image)) (listed table) × (4096 ≤ length (now slots)) × (16 ≤ length (now notes)) ⌝ }
+    ensures { λ r. ⌜ (r ≡ true → Calm (λ f. tot f (found (listed table) (now (image .entry))))) × Noted (now (notes .exit)) (now (image .entry)) ⌝ }
 {
-    if fill_all(t, image, table, slots) {
+    slots::clear(notes);
+    if fill_all(t, image, table, slots, notes) {
         fits::all_fit(image, slots)
     } else {
         false

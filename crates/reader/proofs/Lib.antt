@@ -1,3 +1,4 @@
 pub mod Told
 pub mod Begins
 pub mod HandedOut
+pub mod Passed

@@ -29,14 +29,14 @@ module _ (t : List ℕ) (at n : ℕ) (h : 1 ≤ n) where
       let value : le (part t at (n * 32)) 24 8 ≡ le (part t at 32) 24 8 = le-part t at (n * 32) 24 8 (omega arith) ∙ sym (le-part t at 32 24 8 (omega arith)) in
       rw (byte 0 (omega arith), byte 1 (omega arith), byte 2 (omega arith), byte 3 (omega arith), high, low, value)
 
-module _ (t : List ℕ) (i : ℕ) where
+module _ (t : List ℕ) (i u : ℕ) where
   -- what is handed out where an item begins, and past the last entry
-  pub read-item : isItem t i ≡ true → readOf (walk t 126 i) ≡ record { handed = Item (headerOf i (entryAt t i)); next = i + spanOf (entryAt t i) }
+  pub read-item : isItem t i ≡ true → readOf u (walk t 126 i) ≡ record { handed = Item (headerOf i (entryAt t i)); next = i + spanOf (entryAt t i); unread = u }
   unfolding readOf
   read-item e =
       let n = spanOf (entryAt t i) in
       let s = item-span t i e .0 in
       rw (walk-item t i e, header-told t (64 + i * 32) n s i, span-told t (64 + i * 32) n s)
 
-  pub read-end : 126 ≤ i → readOf (walk t 126 i) ≡ readOf []
-  read-end h = ap readOf (walk-past t 126 i h)
+  pub read-end : 126 ≤ i → readOf u (walk t 126 i) ≡ readOf u []
+  read-end h = ap (readOf u) (walk-past t 126 i h)

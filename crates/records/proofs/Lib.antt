@@ -1,3 +1,4 @@
 pub mod Enter
 pub mod Lists
 pub mod Reading
+pub mod Noting

@@ -1,1 +1,3 @@
 pub mod Records
+pub mod Scanned
+pub mod Notes

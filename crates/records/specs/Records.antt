@@ -6,13 +6,17 @@ use lib.ListN.{take, drop, replicate}
 use Rattle.flash.specs.Step.{sector}
 use Rattle.page.specs.declared.state.PageState.the-variants.{Blank}
 use Rattle.page.specs.declared.«record».PageRecord.{PageRecord}
-use Rattle.page.specs.Record.{recordOf, freeRecord}
+use Rattle.page.specs.Record.{recordOf, freeSeen, withUnread}
 use Rattle.records.specs.declared.Rows.{Rows}
 
--- the records of the first n sectors of the image l: "one a sector, in sector order"
-unfoldable pub recordsTo : List ℕ → ℕ → List PageRecord
-recordsTo l zero = []
-recordsTo l (suc n) = recordsTo l n ++ (recordOf (sector n l) ∷ [])
+-- what f tells of each of the first n sectors of the image l: "one a sector, in sector order"
+unfoldable pub eachTo : {X : Type 0} → (List ℕ → X) → List ℕ → ℕ → List X
+eachTo f l zero = []
+eachTo f l (suc n) = eachTo f l n ++ (f (sector n l) ∷ [])
+
+-- their records
+abbrev pub recordsTo : List ℕ → ℕ → List PageRecord
+recordsTo l n = eachTo recordOf l n
 
 -- the first n rows, and what stood from place n on: "Records past the sectors stay unchanged."
 abbrev pub filled : ℕ → List PageRecord → List PageRecord → List PageRecord
@@ -20,7 +24,7 @@ filled n rows ys = take n rows ++ drop n ys
 
 -- what fills the places of an array that no row has
 abbrev pub blankRecord : PageRecord
-blankRecord = freeRecord Blank
+blankRecord = withUnread (freeSeen Blank) 0
 
 abbrev pub noRows : Rows
 noRows = record { rows = replicate 16 blankRecord; count = 0 }

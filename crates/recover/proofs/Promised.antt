@@ -1,10 +1,12 @@
 -- From the refusals and from what the stages made to the promise, and from the rows to the records stored. Assumes nothing.
 use mathlib.Core.Path.{_≡_, refl, sym, ap, _∙_}
-use mathlib.Core.Bool.{true, false}
+use mathlib.Core.Bool.{Bool, true, false}
 use mathlib.Core.List.{List, [], _++_}
 use Prim.Native.Nat.{ℕ, zero, suc, _/_, _≤_, _<_}
-use lib.ListN.{length, take, drop}
-use borrow.Author.Tests.{le-leb, lt-leb}
+use native.Mathlib.Omega.{arith}
+use lib.Dec.{ltb}
+use lib.ListN.{length, take, drop, getD, replicate, getD-replicate, List·getD-eq-default}
+use borrow.Author.Tests.{le-leb, lt-leb, ltb-true, ltb-false}
 use Rattle.flash.specs.Step.{run}
 use Rattle.flash.proofs.Frame.{length-run}
 use Rattle.answer.specs.declared.Stage.{Stage}
@@ -21,7 +23,10 @@ use Rattle.answer.proofs.Values.{idle}
 use Rattle.page.specs.declared.«record».PageRecord.{PageRecord}
 use Rattle.table.specs.Table.{sectorsOf, wholeSectors, pages}
 use Rattle.records.specs.declared.Rows.{Rows}
-use Rattle.records.specs.Records.{filled, noRows, rowsOf}
+use Rattle.page.specs.Record.{recordOf}
+use Rattle.records.specs.Records.{filled, blankRecord, noRows, rowsOf}
+use Rattle.records.specs.Scanned.{scannedOf}
+use Rattle.records.specs.Notes.{NoneNoted}
 use Rattle.records.proofs.Reading.{rows-read}
 use Rattle.recover.specs.declared.Recovered.{Recovered}
 use Rattle.stages.specs.Stages.{tooHigh, recovering}
@@ -30,6 +35,18 @@ use Rattle.recover.proofs.Answered.{none-whole, none-lent, none-high, s
 
 pub made-size : {ts : List Staged} {n : ℕ} {l m : List ℕ} {w : Went} → Made ts n l m w → length m ≡ length l
 made-size {ts} {n} {l} d = ap length (d .image) ∙ length-run (take n (untag ts)) l
+
+-- no step was made: what was seen of the image as it was found is what is seen of the image that is left
+pub seen-idle : {ts : List Staged} {n : ℕ} {l m : List ℕ} {w : Went} → Made ts n l m w → w ≡ Ended n → (k : ℕ) → scannedOf l k ≡ scannedOf m k
+seen-idle made e k = ap (λ (i : List ℕ). scannedOf i k) (sym (made-idle (rw e at made)))
+
+-- before the stages nothing is noted
+pub none-walked : NoneNoted (replicate 16 0)
+none-walked = record { room = omega arith; none = λ u. go u (ltb u 16) refl }
+  where
+    go : (u : ℕ) (b : Bool) → ltb u 16 ≡ b → _≡_ {A = ℕ} (getD (replicate 16 0) u 0) 0
+    go u true e = getD-replicate 16 u 0 0 (ltb-true u 16 e)
+    go u false e = List·getD-eq-default (replicate 16 0) 0 (ltb-false u 16 e)
 
 -- ---- the refusals
 
@@ -91,15 +108,11 @@ module _ (l : List ℕ) (lent n : ℕ) where
           rows = rw (a, e, sectors-are) s;
         }
 
-    -- no step was made: the rows of the image as it was found are those of the image that is left
-    pub ended-idle : {r : Recovered} → w ≡ Ended n → r .answer ≡ toldOf w n → r .rows ≡ rowsOf l (sectorsOf l) → Recovers l lent n m r
-    ended-idle {r} e a s = ended-rows e a (s ∙ ap (λ (i : List ℕ). rowsOf i (sectorsOf l)) (sym (made-idle (rw e at made))))
-
 -- ---- the records stored
 
 stored-rows : (k : ℕ) (m : List ℕ) (ys : List PageRecord) → filled (rowsFor k m .count) (rowsFor k m .rows) ys ≡ recordsAfter k m ys
 unfolding recordsAfter
-stored-rows zero m ys = ap (λ (rs : List PageRecord). rs ++ drop (sectorsOf m) ys) (rows-read m (sectorsOf m))
+stored-rows zero m ys = ap (λ (rs : List PageRecord). rs ++ drop (sectorsOf m) ys) (rows-read recordOf m blankRecord (sectorsOf m))
 stored-rows (suc k) m ys = refl
 
 pub stored : {l m : List ℕ} {ys zs : List PageRecord} {n : ℕ} {r : Recovered} → Recovers l (length ys) n m r → zs ≡ filled (r .rows .count) (r .rows .rows) ys → RecoverPromise l ys n m zs (r .answer)

@@ -1,10 +1,13 @@
-// The answer to op 2: what the item reader hands out.
+// The answer to op 2: what the item reader hands out, and what it has counted when no item is left.
 use crate::bytes::put_byte;
 use crate::bytes::put_four;
 use reader::Handed;
 ghost use mathlib.Core.Path.{_≡_};
 ghost use Prim.Native.Nat.{_+_, _*_, _<_, _≤_};
 ghost use lib.ListN.{length};
+
+// The longest answer: result, count, 126 items of 36 bytes, unread.
+pub const MOST_BYTES: usize = 4545;
 
 fn put_header(sector: &[u8], entry: usize, out: &mut [u8], at: usize)
     requires { ⌜ (length (now sector) ≡ 4096) × (entry < 126) × (at + 32 ≤ length (now out)) ⌝ }
@@ -27,39 +30,67 @@ fn put_item(sector: &[u8], entry: usize, out: &mut [u8], at: usize)
     }
 }
 
-// The items of a sector; says how many there are.
-fn put_items(sector: &[u8], out: &mut [u8]) -> usize
+// How many items the reader handed out, and the count that it said after them.
+struct Told {
+    count: usize,
+    unread: u8,
+}
+
+// The count that the reader says when no item is left.
+fn said(handed: Handed) -> u8 {
+    match handed {
+        Handed::Item(_) => 0,
+        Handed::End(unread) => unread,
+        Handed::NotSector => 0,
+    }
+}
+
+// The items of a sector; says how many there are, and how many entries are unread.
+fn put_items(sector: &[u8], out: &mut [u8]) -> Told
     requires { ⌜ (length (now sector) ≡ 4096) × (4541 ≤ length (now out)) ⌝ }
-    ensures { λ r. ⌜ r ≤ 126 ⌝ }
+    ensures { λ r. ⌜ r .count ≤ 126 ⌝ }
 {
     let mut count: usize = 0;
     let mut at = reader::begins_at(sector);
+    let mut unread: u8 = 0;
     while count < 126 {
-        let read = reader::read_on(sector, at);
+        let read = reader::read_on(sector, at, unread);
         let handed = read.handed;
         let Handed::Item(item) = handed else {
-            return count;
+            return Told {
+                count,
+                unread: said(handed),
+            };
         };
         put_item(sector, item.entry, out, 5 + count * 36);
         at = read.next;
+        unread = read.unread;
         count += 1;
     }
-    count
+    let last = reader::read_on(sector, at, unread);
+    let handed = last.handed;
+    Told {
+        count,
+        unread: said(handed),
+    }
 }
 
 // The whole answer; says how long it is.
 pub fn answer(sector: &[u8], out: &mut [u8]) -> usize
-    requires { ⌜ length (now out) ≡ 4541 ⌝ }
-    ensures { λ r. ⌜ r ≤ 4541 ⌝ }
+    requires { ⌜ length (now out) ≡ 4545 ⌝ }
+    ensures { λ r. ⌜ r ≤ 4545 ⌝ }
 {
-    let read = reader::read_from(sector, 0);
+    let read = reader::read_from(sector, 0, 0);
     let handed = read.handed;
     put_byte(out, 0, reader::result(handed));
     if sector.len() != 4096 {
         put_four(out, 1, 0);
-        return 5;
+        put_four(out, 5, 0);
+        return 9;
     }
-    let count = put_items(sector, out);
+    let told = put_items(sector, out);
+    let count = told.count;
     put_four(out, 1, (count % 65536) as u32);
-    5 + count * 36
+    put_four(out, 5 + count * 36, told.unread as u32);
+    9 + count * 36
 }

@@ -2,9 +2,10 @@
 //
 //     case      u8 op, u64 allowance, u32 records, u32 length, then the image's bytes
 //     op 0      recovery: u8 result, u64 steps, u8 stage, u32 source, u32 length, the image, u32 records, then each record's state in 1 byte and its
-//               five numbers in 4 bytes each; of a record that was left unchanged every byte is 0xEE
+//               six numbers in 4 bytes each; of a record that was left unchanged every byte is 0xEE
 //     op 1      reclaim: the same, with no record
-//     op 2      the item reader of one sector: u8 result, u32 count, then each item's entry in 4 bytes and its 32 header bytes
+//     op 2      the item reader of one sector: u8 result, u32 count, then each item's entry in 4 bytes and its 32 header bytes, then u32 unread: what the
+//               reader has counted when no item is left
 //     op 3      the listing: u32 length, the text
 //
 // Input that ends inside a case, a length above 131,072, more than 32 records and an op that is none end the run after the last whole case.
@@ -55,7 +56,7 @@ fn answer(op: u8, allowance: u64, lent: usize, image: &mut [u8], length: usize) 
 }
 
 fn answer_items(sector: &[u8]) -> bool {
-    let mut out = [0u8; 4541];
+    let mut out = [0u8; items::MOST_BYTES];
     let n = items::answer(sector, &mut out);
     io::write_all(STDOUT_FILENO, &out[..n])
 }

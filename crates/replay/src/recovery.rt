@@ -22,6 +22,7 @@ fn state_number(state: PageState) -> u8 {
 fn unchanged() -> PageRecord {
     PageRecord {
         state: PageState::Blank,
+        unread: 0xEE,
         sequence: 0xEEEE_EEEE,
         written: 0xEE,
         erased: 0xEE,
@@ -47,13 +48,14 @@ fn count_word(n: u8) -> u32 {
 }
 
 fn write_record(r: PageRecord) -> bool {
-    let mut out = [0u8; 21];
+    let mut out = [0u8; 25];
     put_byte(&mut out, 0, state_byte(r));
     put_four(&mut out, 1, r.sequence);
     put_four(&mut out, 5, count_word(r.written));
     put_four(&mut out, 9, count_word(r.erased));
     put_four(&mut out, 13, count_word(r.empty));
     put_four(&mut out, 17, count_word(r.illegal));
+    put_four(&mut out, 21, count_word(r.unread));
     io::write_all(STDOUT_FILENO, &out)
 }
 

@@ -14,6 +14,7 @@ ghost use Rattle.crc.specs.Table.{crcTable};
 ghost use Rattle.lists.specs.Lists.{greatest};
 ghost use Rattle.answer.specs.Staged.{tag};
 ghost use Rattle.answer.specs.Went.{Made};
+ghost use Rattle.records.specs.Notes.{Noted, NoneNoted};
 ghost use Rattle.table.specs.Table.{sectorsOf, pages, frees, sequence, listed, freed, Sized, Holds};
 ghost use Rattle.table.specs.PagesPlaced.{PagesPlaced};
 ghost use Rattle.found.specs.Found.{found};
@@ -23,6 +24,7 @@ ghost use Rattle.duplicates.specs.Duplicates.{lastMarks, duplicateStage};
 ghost use Rattle.finishing.specs.Finishing.{freeings};
 ghost use Rattle.stages.specs.Stages.{lastStages, fromOrder, fromFinish, recovering, tooHigh};
 ghost use mathlib.Core.Bool.{false};
+ghost use Rattle.stages.specs.Counted.{Counted};
 
 // Where there is nothing to repair, the last marks are all that is left of the stages.
 fn close_full(image: &mut [u8], table: Table, allowed: u64) -> Went
@@ -43,23 +45,37 @@ fn repair_items(image: &mut [u8], table: Table, room: &mut [u16], n: usize, allo
 }
 
 // Stage 4 after stage 3: mostly nothing is left to repair, which the quick test tells without a sort.
-fn after_blobs(t: &CrcTable, image: &mut [u8], table: Table, room: &mut [u16], allowed: u64) -> Went
-    requires { ⌜ (now t ≡ crcTable) × Sized table × PagesPlaced (sectorsOf (now image)) (listed table) (freed table) × Each (Lies (now image)) (listed table) × (4096 ≤ length (now room)) ⌝ }
-    ensures { λ r. ⌜ Made (tag Stage.Duplicates (duplicateStage (listed table) (now (image .entry)))) allowed (now (image .entry)) (now (image .exit)) r ⌝ }
+fn after_blobs(
+    t: &CrcTable,
+    image: &mut [u8],
+    table: Table,
+    room: &mut [u16],
+    notes: &mut [u16],
+    allowed: u64,
+) -> Went
+    requires { ⌜ (now t ≡ crcTable) × Sized table × PagesPlaced (sectorsOf (now image)) (listed table) (freed table) × Each (Lies (now image)) (listed table) × (4096 ≤ length (now room)) × (16 ≤ length (now notes)) ⌝ }
+    ensures { λ r. ⌜ Made (tag Stage.Duplicates (duplicateStage (listed table) (now (image .entry)))) allowed (now (image .entry)) (now (image .exit)) r × Counted (now (notes .exit)) (now (image .exit)) r ⌝ }
 {
-    if quick::is_calm(t, image, table, room) {
+    if quick::is_calm(t, image, table, room, notes) {
         return close_full(image, table, allowed);
     }
-    let n = found::gather(t, image, table, room);
+    let n = found::gather(t, image, table, room, notes);
     repair_items(image, table, room, n, allowed)
 }
 
 // Stages 3 and 4, each on the items found as it begins, whose places stand in `room`. Where there is no blob these are the same.
-fn repair(t: &CrcTable, image: &mut [u8], table: Table, room: &mut [u16], allowed: u64) -> Went
-    requires { ⌜ (now t ≡ crcTable) × Sized table × PagesPlaced (sectorsOf (now image)) (listed table) (freed table) × Each (Lies (now image)) (listed table) × (4096 ≤ length (now room)) ⌝ }
-    ensures { λ r. ⌜ Made (lastStages (listed table) (now (image .entry))) allowed (now (image .entry)) (now (image .exit)) r ⌝ }
+fn repair(
+    t: &CrcTable,
+    image: &mut [u8],
+    table: Table,
+    room: &mut [u16],
+    notes: &mut [u16],
+    allowed: u64,
+) -> Went
+    requires { ⌜ (now t ≡ crcTable) × Sized table × PagesPlaced (sectorsOf (now image)) (listed table) (freed table) × Each (Lies (now image)) (listed table) × (4096 ≤ length (now room)) × Noted (now notes) (now image) ⌝ }
+    ensures { λ r. ⌜ Made (lastStages (listed table) (now (image .entry))) allowed (now (image .entry)) (now (image .exit)) r × Counted (now (notes .exit)) (now (image .exit)) r ⌝ }
 {
-    let n = found::gather(t, image, table, room);
+    let n = found::gather(t, image, table, room, notes);
     if !blobs::any_part(image, &room[..n]) {
         return repair_items(image, table, room, n, allowed);
     }
@@ -67,42 +83,55 @@ fn repair(t: &CrcTable, image: &mut [u8], table: Table, room: &mut [u16], allowe
     let Ran::Done(left) = r else {
         return Went::Short(Stage::Blobs);
     };
-    after_blobs(t, image, table, room, left)
+    after_blobs(t, image, table, room, notes, left)
 }
 
 // Where no page is listed there is no item. The quick test spares a clean store the stages' searches. It takes its slots from the array that the stages work
 // in afterwards.
-fn last_stages(t: &CrcTable, image: &mut [u8], table: Table, allowed: u64) -> Went
-    requires { ⌜ (now t ≡ crcTable) × Sized table × PagesPlaced (sectorsOf (now image)) (listed table) (freed table) × Each (Lies (now image)) (listed table) ⌝ }
-    ensures { λ r. ⌜ Made (lastStages (listed table) (now (image .entry))) allowed (now (image .entry)) (now (image .exit)) r ⌝ }
+fn last_stages(
+    t: &CrcTable,
+    image: &mut [u8],
+    table: Table,
+    notes: &mut [u16],
+    allowed: u64,
+) -> Went
+    requires { ⌜ (now t ≡ crcTable) × Sized table × PagesPlaced (sectorsOf (now image)) (listed table) (freed table) × Each (Lies (now image)) (listed table) × NoneNoted (now notes) ⌝ }
+    ensures { λ r. ⌜ Made (lastStages (listed table) (now (image .entry))) allowed (now (image .entry)) (now (image .exit)) r × Counted (now (notes .exit)) (now (image .exit)) r ⌝ }
 {
     if table.count == 0 {
         return Went::Ended(allowed);
     }
     let mut room = [0u16; SLOTS];
-    if quick::is_calm(t, image, table, &mut room) {
+    if quick::is_calm(t, image, table, &mut room, notes) {
         return close_full(image, table, allowed);
     }
-    repair(t, image, table, &mut room, allowed)
+    repair(t, image, table, &mut room, notes, allowed)
 }
 
 // Stage 1 on the lists as they were scanned, then stages 3 and 4.
-fn from_order(t: &CrcTable, image: &mut [u8], table: Table, allowed: u64) -> Went
-    requires { ⌜ (now t ≡ crcTable) × Holds table (pages (now image)) (frees (now image)) × (sectorsOf (now image) ≤ 16) ⌝ }
-    ensures { λ r. ⌜ Made (fromOrder (pages (now (image .entry))) (now (image .entry))) allowed (now (image .entry)) (now (image .exit)) r ⌝ }
+fn from_order(t: &CrcTable, image: &mut [u8], table: Table, notes: &mut [u16], allowed: u64) -> Went
+    requires { ⌜ (now t ≡ crcTable) × Holds table (pages (now image)) (frees (now image)) × (sectorsOf (now image) ≤ 16) × NoneNoted (now notes) ⌝ }
+    ensures { λ r. ⌜ Made (fromOrder (pages (now (image .entry))) (now (image .entry))) allowed (now (image .entry)) (now (image .exit)) r × Counted (now (notes .exit)) (now (image .exit)) r ⌝ }
 {
     let r = order::order_pages(image, table, allowed);
     let ran = r.ran;
     let Ran::Done(left) = ran else {
         return Went::Short(Stage::Order);
     };
-    last_stages(t, image, r.table, left)
+    last_stages(t, image, r.table, notes, left)
 }
 
 // Stage 2, `count` rounds of it, then the scan and stage 1 again.
-fn from_finish(t: &CrcTable, image: &mut [u8], table: Table, count: usize, allowed: u64) -> Went
-    requires { ⌜ (now t ≡ crcTable) × Sized table × PagesPlaced (sectorsOf (now image)) (listed table) (freed table) × (count ≡ freeings (listed table)) × (greatest sequence (listed table) + count ≤ 0xFFFF_FFFE) × (length (now image) ≡ sectorsOf (now image) * 4096) × (sectorsOf (now image) ≤ 16) ⌝ }
-    ensures { λ r. ⌜ Made (fromFinish (listed table) (freed table) (now (image .entry))) allowed (now (image .entry)) (now (image .exit)) r ⌝ }
+fn from_finish(
+    t: &CrcTable,
+    image: &mut [u8],
+    table: Table,
+    count: usize,
+    notes: &mut [u16],
+    allowed: u64,
+) -> Went
+    requires { ⌜ (now t ≡ crcTable) × Sized table × PagesPlaced (sectorsOf (now image)) (listed table) (freed table) × (count ≡ freeings (listed table)) × (greatest sequence (listed table) + count ≤ 0xFFFF_FFFE) × (length (now image) ≡ sectorsOf (now image) * 4096) × (sectorsOf (now image) ≤ 16) × NoneNoted (now notes) ⌝ }
+    ensures { λ r. ⌜ Made (fromFinish (listed table) (freed table) (now (image .entry))) allowed (now (image .entry)) (now (image .exit)) r × Counted (now (notes .exit)) (now (image .exit)) r ⌝ }
 {
     let r = finishing::finish_all(t, image, table, count, allowed);
     let Went::Ended(left) = r else {
@@ -110,13 +139,19 @@ fn from_finish(t: &CrcTable, image: &mut [u8], table: Table, count: usize, allow
     };
     let sectors = image.len() / SECTOR_BYTES;
     let again = table::scan(t, image, sectors);
-    from_order(t, image, again, left)
+    from_order(t, image, again, notes, left)
 }
 
 // All stages, where `table` is what the scan found.
-pub fn make_stages(t: &CrcTable, image: &mut [u8], table: Table, allowed: u64) -> Went
-    requires { ⌜ (now t ≡ crcTable) × Holds table (pages (now image)) (frees (now image)) × (length (now image) ≡ sectorsOf (now image) * 4096) × (sectorsOf (now image) ≤ 16) × (tooHigh (pages (now image)) ≡ false) ⌝ }
-    ensures { λ r. ⌜ Made (recovering (now (image .entry))) allowed (now (image .entry)) (now (image .exit)) r ⌝ }
+pub fn make_stages(
+    t: &CrcTable,
+    image: &mut [u8],
+    table: Table,
+    notes: &mut [u16],
+    allowed: u64,
+) -> Went
+    requires { ⌜ (now t ≡ crcTable) × Holds table (pages (now image)) (frees (now image)) × (length (now image) ≡ sectorsOf (now image) * 4096) × (sectorsOf (now image) ≤ 16) × (tooHigh (pages (now image)) ≡ false) × NoneNoted (now notes) ⌝ }
+    ensures { λ r. ⌜ Made (recovering (now (image .entry))) allowed (now (image .entry)) (now (image .exit)) r × Counted (now (notes .exit)) (now (image .exit)) r ⌝ }
 {
     let r = order::order_pages(image, table, allowed);
     let ran = r.ran;
@@ -125,7 +160,7 @@ pub fn make_stages(t: &CrcTable, image: &mut [u8], table: Table, allowed: u64) -
     };
     let count = finishing::count_freeing(r.table);
     if count == 0 {
-        return last_stages(t, image, r.table, left);
+        return last_stages(t, image, r.table, notes, left);
     }
-    from_finish(t, image, r.table, count, left)
+    from_finish(t, image, r.table, count, notes, left)
 }

@@ -1,4 +1,3 @@
-pub mod Records
 pub mod Pages
 pub mod Scanning
 pub mod Listing

@@ -19,8 +19,7 @@ use Rattle.lists.proofs.Member.{_∈_, cond-same, in-append, in-left, in-right}
 use Rattle.lists.proofs.Range.{sumTo-only}
 use Rattle.table.specs.declared.Page.{Page}
 use Rattle.table.specs.Table.{frees, freesTo, inSector, itemsIn, pageAt, pages, pagesTo, sectorsOf}
-use Rattle.table.proofs.Scanning.{record-state}
-use Rattle.table.proofs.Records.{record-empty, record-erased}
+use Rattle.page.proofs.Fields.{seen-empty, seen-erased, seen-state}
 
 module _ (l : List ℕ) where
   -- a page of the list is a sector that is not free, with its record
@@ -88,13 +87,13 @@ module _ (l : List ℕ) where
 
   -- what the record of a listed page says is read of its sector
   pub page-state : (p : Page) → p ∈ pages l → p .seen .state ≡ stateOf (sector (p .sector) l)
-  page-state p m = ap {B = PageState} (λ (q : Page). q .seen .state) (pages-in p m .0) ∙ record-state (sector (p .sector) l)
+  page-state p m = ap {B = PageState} (λ (q : Page). q .seen .state) (pages-in p m .0) ∙ seen-state (sector (p .sector) l)
 
   pub page-empty : (p : Page) → p ∈ pages l → p .seen .empty ≡ countState (sector (p .sector) l) empty
-  page-empty p m = let r = pages-in p m in ap {B = ℕ} (λ (q : Page). q .seen .empty) (r .0) ∙ record-empty (sector (p .sector) l) (r .2)
+  page-empty p m = let r = pages-in p m in ap {B = ℕ} (λ (q : Page). q .seen .empty) (r .0) ∙ seen-empty (sector (p .sector) l) (r .2)
 
   pub page-erased : (p : Page) → p ∈ pages l → p .seen .erased ≡ countState (sector (p .sector) l) 0
-  page-erased p m = let r = pages-in p m in ap {B = ℕ} (λ (q : Page). q .seen .erased) (r .0) ∙ record-erased (sector (p .sector) l) (r .2)
+  page-erased p m = let r = pages-in p m in ap {B = ℕ} (λ (q : Page). q .seen .erased) (r .0) ∙ seen-erased (sector (p .sector) l) (r .2)
 
   -- a page of the list is known by its sector
   pub page-same : (p q : Page) → p ∈ pages l → q ∈ pages l → p .sector ≡ q .sector → p ≡ q

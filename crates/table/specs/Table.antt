@@ -10,7 +10,7 @@ use Rattle.flash.specs.Step.{sector}
 use Rattle.page.specs.declared.state.PageState.{PageState}
 use Rattle.page.specs.declared.state.PageState.the-variants.{Blank, Corrupt, Active, Full, Freeing}
 use Rattle.page.specs.State.{stateOf, isFree}
-use Rattle.page.specs.Record.{recordOf}
+use Rattle.page.specs.Record.{seenOf}
 use Rattle.page.specs.Walk.{Laid, walk}
 use Rattle.table.specs.declared.Page.{Page}
 use Rattle.table.specs.declared.Table.{Table}
@@ -24,7 +24,7 @@ wholeSectors l = eqb (length l % 4096) 0 && (leb 2 (sectorsOf l) && leb (sectors
 
 -- the page in sector u
 abbrev pub pageAt : ℕ → List ℕ → Page
-pageAt u l = record { sector = u; seen = recordOf (sector u l) }
+pageAt u l = record { sector = u; seen = seenOf (sector u l) }
 
 -- "Page list: sectors ascending": of the first n sectors
 unfoldable pub pagesTo : List ℕ → ℕ → List Page

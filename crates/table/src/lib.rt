@@ -2,23 +2,23 @@
 use crc::CrcTable;
 use layout::MOST_SECTORS;
 use layout::SECTOR_BYTES;
-use page::PageRecord;
 use page::PageState;
-use records::Rows;
+use page::Seen;
+use records::Scanned;
 ghost use mathlib.Core.Path.{_≡_};
 ghost use mathlib.Core.List.{List, [], _∷_, _++_, dropLast};
 ghost use Prim.Native.Nat.{ℕ, max, _-_, _*_, _≤_, _<_};
 ghost use lib.ListN.{length};
 ghost use Rattle.crc.specs.Table.{crcTable};
 ghost use Rattle.lists.specs.Lists.{greatest, some-of, firstOf, takeOut};
-ghost use Rattle.records.specs.Records.{rowsOf};
+ghost use Rattle.records.specs.Scanned.{scannedOf};
 ghost use Rattle.table.specs.Table.{sectorsOf, wholeSectors, pages, frees, active, sequence, activePage, inSector, asFull, listed, freed, Sized, Holds};
 ghost use Rattle.table.specs.Sought.{soughtOf, codeOf, inState};
 
-// A page of the list: its sector, and the record that the scan made of it.
+// A page of the list: its sector, and what the scan saw of it.
 pub struct Page {
     pub sector: u8,
-    pub seen: PageRecord,
+    pub seen: Seen,
 }
 
 // The page list and the free list of an image of at most 16 sectors.
@@ -45,7 +45,7 @@ pub fn is_active(state: PageState) -> bool
 fn no_page() -> Page {
     Page {
         sector: 0,
-        seen: PageRecord {
+        seen: Seen {
             state: PageState::Blank,
             sequence: 0,
             written: 0,
@@ -56,19 +56,19 @@ fn no_page() -> Page {
     }
 }
 
-// The lists of the sectors that the rows are of, whatever image they were read from.
-pub fn list_rows(rows: Rows) -> Table
-    requires { ⌜ rows .count ≤ 16 ⌝ }
-    ensures { λ r. ⌜ ((l : List ℕ) → rows ≡ rowsOf l (sectorsOf l) → Holds r (pages l) (frees l)) ⌝ }
+// The lists of the sectors that were seen, whatever image they are of.
+pub fn list_seen(scanned: Scanned) -> Table
+    requires { ⌜ scanned .count ≤ 16 ⌝ }
+    ensures { λ r. ⌜ ((l : List ℕ) → scanned ≡ scannedOf l (sectorsOf l) → Holds r (pages l) (frees l)) ⌝ }
 {
-    let sectors = rows.count;
+    let sectors = scanned.count;
     let mut list = [no_page(); MOST_SECTORS];
     let mut count: usize = 0;
     let mut free = [0u8; MOST_SECTORS];
     let mut free_count: usize = 0;
     let mut n: usize = 0;
     while n < sectors {
-        let seen = rows.rows[n];
+        let seen = scanned.seen[n];
         let state = seen.state;
         if page::is_free(state) {
             free[free_count] = n as u8;
@@ -96,7 +96,7 @@ pub fn scan(t: &CrcTable, image: &[u8], sectors: usize) -> Table
     requires { ⌜ (now t ≡ crcTable) × (length (now image) ≡ sectors * 4096) × (sectors ≤ 16) ⌝ }
     ensures { λ r. ⌜ Holds r (pages (now (image .entry))) (frees (now (image .entry))) ⌝ }
 {
-    list_rows(records::read_rows(t, image, sectors))
+    list_seen(records::see_all(t, image, sectors))
 }
 
 // Whether the image is 2 to 16 whole sectors.
@@ -161,7 +161,7 @@ pub fn as_full(p: Page) -> Page
     let seen = p.seen;
     Page {
         sector: p.sector,
-        seen: PageRecord {
+        seen: Seen {
             state: PageState::Full,
             sequence: seen.sequence,
             written: seen.written,

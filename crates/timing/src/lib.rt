@@ -16,7 +16,8 @@ pub extern "C" fn timing_walk(sector: &[u8]) -> usize {
     }
     let t = crc::table();
     let mut out = [0u16; PAGE_ENTRIES];
-    page::places(&t, sector, 0, &mut out, 0)
+    let walked = page::places(&t, sector, 0, &mut out, 0);
+    walked.end
 }
 
 // How many items the reader hands out of a sector, one a call.
@@ -24,13 +25,15 @@ pub extern "C" fn timing_walk(sector: &[u8]) -> usize {
 pub extern "C" fn timing_reader(sector: &[u8]) -> usize {
     let mut count: usize = 0;
     let mut at = reader::begins_at(sector);
+    let mut unread: u8 = 0;
     while count < PAGE_ENTRIES {
-        let read = reader::read_on(sector, at);
+        let read = reader::read_on(sector, at, unread);
         let handed = read.handed;
         let Handed::Item(_) = handed else {
             return count;
         };
         at = read.next;
+        unread = read.unread;
         count += 1;
     }
     count

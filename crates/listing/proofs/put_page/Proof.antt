@@ -1,4 +1,4 @@
--- `listing::put_page` meets its contract: the sequence, and the counts behind it. Assumes nothing.
+-- `listing::put_page` meets its contract: the sequence, the counts behind it, and then the unread entries. Assumes nothing.
 use borrow.Author.Needs.{needs}
 use Rattle.listing.proofs.Putting.{put-both}
 use Rattle.listing.specs.Listing.{pageText}
@@ -8,10 +8,11 @@ use Rattle.listing.proofs.put_page.Tie as tie
 returns : tie.Need-returns
 unfolding pageText
 returns c =
-    let counted = c .before .before in
+    let unread = c .before .before in
+    let counted = unread .before .before .before .before .before .before in
     let sequence = counted .before .before .before .before in
     let gap = sequence .before .before .before .before .before in
-    put-both (gap .put-byte .ensures) (put-both (sequence .put-number .ensures) (counted .put-counts .ensures))
+    put-both (gap .put-byte .ensures) (put-both (sequence .put-number .ensures) (put-both (counted .put-counts .ensures) (unread .put-field .ensures)))
 
 pub put-page-spec : {M : Type 1} → statement M
 put-page-spec =
@@ -20,6 +21,9 @@ put-page-spec =
     (λ c κs. search needs)
     (λ c. search needs)
     (λ c κs. search needs)
+    (λ c κs. search needs)
+    (λ c. search needs)
+    (λ c. search needs)
     (λ c κs. search needs)
     (λ c. search needs)
     returns)

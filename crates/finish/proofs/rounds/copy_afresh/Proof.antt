@@ -91,8 +91,8 @@ add-e c =
     let entered = c .before .before .before .before .before .before .before .before .before in
     let h = fits entered in omega arith
 
-part-page-record-end : tie.Need-part-page-record-end
-part-page-record-end c =
+part-see-end : tie.Need-part-see-end
+part-see-end c =
     let m = c .before .before .before in
     let started = m .before .before .before .before .before .before .before in
     let h = fits started in
@@ -131,7 +131,7 @@ returns-2 c =
           let d = c .before .before .drop-free .ensures .0 in
           record {
             sized = j .sized;
-            list = j .list ∙ f .list ∙ rw (d .list, p .page-record .ensures, lent-sector (getD (t .free) (t .«free_count» - 1) 0) (m .move-page .last .1 .0), i);
+            list = j .list ∙ f .list ∙ rw (d .list, p .see .ensures, lent-sector (getD (t .free) (t .«free_count» - 1) 0) (m .move-page .last .1 .0), i);
             free = j .free ∙ ap (λ (r : List ℕ). r ++ (a .args .x .sector ∷ [])) (f .free ∙ d .free);
           };
     })
@@ -156,7 +156,7 @@ copy-afresh-spec =
     add-e
     (λ c. search needs)
     (λ c. search needs)
-    part-page-record-end
+    part-see-end
     (λ c κs. search needs)
     (λ c κs. search needs)
     append-page-requires

@@ -1,4 +1,4 @@
--- `page::places` meets its contract: what is stored so far, and the places of the items from here on, is the whole. Assumes nothing.
+-- `page::places` meets its contract: what is stored and counted so far, and the places and the unread entries from here on, is the whole. Assumes nothing.
 use mathlib.Core.Path.{_≡_, sym, ap, _∙_}
 use mathlib.Core.Bool.{true, false}
 use mathlib.Core.List.{List, _++_, append-nil}
@@ -10,18 +10,20 @@ use lib.ListN.{length, take, length-set}
 use Rattle.word.proofs.Bytes.{part-byte}
 use Rattle.entry.specs.Fields.{entryAt, spanOf}
 use Rattle.page.specs.Walk.{isItem}
+use Rattle.page.specs.Unread.{unreadFrom}
 use Rattle.page.proofs.Tests.{not-true, not-false}
 use Rattle.page.proofs.Walking.{item-span}
+use Rattle.page.proofs.Unread.{unread-past, unread-item, unread-skip}
 use Rattle.page.proofs.Placing.{placesFrom, place-more, place-same, place-end}
 use Rattle.page.proofs.walk.places.Statement.{statement}
 use Rattle.page.proofs.walk.places.Tie as tie
 
 abbrev Inv-loop : tie.InvT-loop
-Inv-loop t s base out₀ from k₀ i₀ out k i =
-    (length out ≡ length out₀) × (i ≤ 126) × (k ≤ from + i) × (take k out ++ placesFrom s base i ≡ take from out₀ ++ placesFrom s base 0)
+Inv-loop t s base out₀ from end₀ unread₀ i₀ out end unread i =
+    (length out ≡ length out₀) × (i ≤ 126) × (end ≤ from + i) × (take end out ++ placesFrom s base i ≡ take from out₀ ++ placesFrom s base 0) × (unread ≤ i) × (unread + unreadFrom s 126 i ≡ unreadFrom s 126 0)
 
 abbrev μ-loop : tie.MeasureT-loop
-μ-loop t s base out₀ from k₀ i₀ out k i = 126 - i
+μ-loop t s base out₀ from end₀ unread₀ i₀ out end unread i = 126 - i
 
 -- what is known once the span is read: an item begins here, and its span, which is not 0, ends on the page
 fits-on : (c : tie.After-size Inv-loop μ-loop)
@@ -38,15 +40,33 @@ fits-on c =
     let f = item-span s i e in
     (e, n, omega arith, omega arith)
 
+-- no item begins here: the entry counts if it is Written
+no-item-here : (c : tie.After-one-written Inv-loop μ-loop) →
+    let at-loop = c .before .before .before .before in
+    let s = at-loop .before .before .before .args .s .now in
+    (isItem s (at-loop .loop .i) ≡ false) × (unreadFrom s 126 (at-loop .loop .i) ≡ c .one-written .result + unreadFrom s 126 (at-loop .loop .i + 1))
+no-item-here c =
+    let at-loop = c .before .before .before .before in
+    let l = at-loop .loop in
+    let s = at-loop .before .before .before .args .s .now in
+    let none : isItem s (l .i) ≡ false = sym (c .before .before .is-item .ensures) ∙ not-true (c .before .before .is-item .result) (c .before .if1 .taken) in
+    (none, unread-skip s (l .i) none (omega arith) ∙ ap (λ (k : ℕ). k + unreadFrom s 126 (l .i + 1)) (sym (c .one-written .ensures .0)))
+
+add-unread : tie.Need-add-unread Inv-loop μ-loop
+add-unread c = let h = c .one-written .ensures .1 in search needs
+
 loop-again : tie.Need-loop-again Inv-loop μ-loop
 loop-again c =
-    let l = c .before .before .before .loop in
-    let a = c .before .before .before .before .before .before .args in
-    let none : isItem (a .s .now) (l .i) ≡ false = sym (c .before .is-item .ensures) ∙ not-true (c .before .is-item .result) (c .if1 .taken) in (
+    let at-loop = c .before .before .before .before in
+    let l = at-loop .loop in
+    let a = at-loop .before .before .before .args in
+    let none = no-item-here c in (
       l .inv .0,
       omega arith,
       omega arith,
-      ap (λ (r : List ℕ). take (l .k) (l .out) ++ r) (place-same (a .s .now) (a .base) (l .i) none) ∙ l .inv .3,
+      ap (λ (r : List ℕ). take (l .end) (l .out) ++ r) (place-same (a .s .now) (a .base) (l .i) (none .0)) ∙ l .inv .3,
+      omega (arith, c .one-written .ensures .1),
+      omega (arith, none .1),
     )
 
 add-i-2 : tie.Need-add-i-2 Inv-loop μ-loop
@@ -62,19 +82,24 @@ loop-again-2 c =
     let l = at-loop .loop in
     let a = entered .args in
     let e = fits-on c in
-    let k : l .k < length (l .out) = omega arith in (
+    let k : l .end < length (l .out) = omega arith in
+    let passed = unread-item (a .s .now) (l .i) (e .0) in (
       simp length-set (l .inv .0),
       omega arith,
       omega arith,
-      rw (e .1) (place-more (a .s .now) (a .base) (l .i) (e .0) (l .out) (l .k) k ∙ l .inv .3),
+      rw (e .1) (place-more (a .s .now) (a .base) (l .i) (e .0) (l .out) (l .end) k ∙ l .inv .3),
+      omega arith,
+      rw (e .1) (omega (arith, passed)),
     )
 
 returns : tie.Need-returns Inv-loop μ-loop
 returns c =
     let l = c .before .loop in
     let a = c .before .before .before .before .args in
-    let out = take (l .k) (l .out) in (
+    let out = take (l .end) (l .out) in
+    let none = unread-past (a .s .now) 126 (l .i) (c .loop-test .left) in (
       sym (append-nil out) ∙ ap (λ (r : List ℕ). out ++ r) (sym (place-end (a .s .now) (a .base) (l .i) (c .loop-test .left))) ∙ l .inv .3,
+      omega arith,
       omega arith,
     )
 
@@ -86,6 +111,8 @@ places-spec =
     μ-loop
     (λ c. search needs)
     (λ c κs. search needs)
+    (λ c κs. search needs)
+    add-unread
     (λ c. search needs)
     (λ c. search needs)
     loop-again

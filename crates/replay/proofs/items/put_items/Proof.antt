@@ -6,10 +6,10 @@ use Rattle.replay.proofs.items.put_items.Statement.{statement}
 use Rattle.replay.proofs.items.put_items.Tie as tie
 
 abbrev Inv-loop : tie.InvT-loop
-Inv-loop sector out₀ count₀ at₀ out count at = (count ≤ 126) × (length out ≡ length out₀)
+Inv-loop sector out₀ count₀ at₀ unread₀ out count at unread = (count ≤ 126) × (length out ≡ length out₀)
 
 abbrev μ-loop : tie.MeasureT-loop
-μ-loop sector out₀ count₀ at₀ out count at = 126 - count
+μ-loop sector out₀ count₀ at₀ unread₀ out count at unread = 126 - count
 
 pub put-items-spec : {M : Type 1} → statement M
 put-items-spec =
@@ -21,6 +21,7 @@ put-items-spec =
     (λ c. search needs)
     (λ c κs. search needs)
     (λ c. search needs)
+    (λ c κs. search needs)
     (λ c. search needs)
     (λ c. search needs)
     (λ c. search needs)
@@ -29,5 +30,7 @@ put-items-spec =
     (λ c. search needs)
     (λ c. search needs)
     (λ c. search needs)
+    (λ c κs. search needs)
+    (λ c κs. search needs)
     (λ c. search needs)
     (λ c. search needs))

@@ -1,4 +1,4 @@
--- `table::list_rows` meets its contract: what is listed so far is the lists of the sectors passed, of any image that the rows are of. Assumes nothing.
+-- `table::list_seen` meets its contract: what is listed so far is the lists of the sectors passed, of any image that they are of. Assumes nothing.
 use mathlib.Core.Path.{_≡_, refl, sym, ap, _∙_}
 use mathlib.Core.Bool.{true, false}
 use mathlib.Core.List.{List}
@@ -10,19 +10,19 @@ use lib.ListN.{length, take, length-set}
 use lib.Seq.{take-suc-set}
 use Rattle.flash.specs.Step.{sector}
 use Rattle.page.specs.State.{stateOf, isFree}
-use Rattle.records.specs.declared.Rows.{Rows}
-use Rattle.records.specs.Records.{rowsOf}
+use Rattle.records.specs.declared.scanned.Scanned.{Scanned}
+use Rattle.records.specs.Scanned.{scannedOf}
 use Rattle.table.specs.Table.{sectorsOf, pagesTo, freesTo, pages, frees}
-use Rattle.table.proofs.Scanning.{row-record, row-state, pages-free, pages-used, frees-free, frees-used}
-use Rattle.table.proofs.list_rows.Statement.{statement}
-use Rattle.table.proofs.list_rows.Tie as tie
+use Rattle.table.proofs.Scanning.{seen-at, state-at, pages-free, pages-used, frees-free, frees-used}
+use Rattle.table.proofs.list_seen.Statement.{statement}
+use Rattle.table.proofs.list_seen.Tie as tie
 
 abbrev Inv-loop : tie.InvT-loop
-Inv-loop rows sectors list₀ count₀ free₀ free-count₀ n₀ list count free free-count n =
-    (length list ≡ 16) × (length free ≡ 16) × (n ≤ sectors) × (count ≤ n) × (free-count ≤ n) × ((l : List ℕ) → rows ≡ rowsOf l (sectorsOf l) → (take count list ≡ pagesTo l n) × (take free-count free ≡ freesTo l n))
+Inv-loop scanned sectors list₀ count₀ free₀ free-count₀ n₀ list count free free-count n =
+    (length list ≡ 16) × (length free ≡ 16) × (n ≤ sectors) × (count ≤ n) × (free-count ≤ n) × ((l : List ℕ) → scanned ≡ scannedOf l (sectorsOf l) → (take count list ≡ pagesTo l n) × (take free-count free ≡ freesTo l n))
 
 abbrev μ-loop : tie.MeasureT-loop
-μ-loop rows sectors list₀ count₀ free₀ free-count₀ n₀ list count free free-count n = sectors - n
+μ-loop scanned sectors list₀ count₀ free₀ free-count₀ n₀ list count free free-count n = sectors - n
 
 loop-holds : tie.Need-loop-holds Inv-loop μ-loop
 unfolding pagesTo freesTo
@@ -31,10 +31,10 @@ loop-holds c = (search needs, search needs, search needs, search needs, search n
 loop-again : tie.Need-loop-again Inv-loop μ-loop
 loop-again c =
     let k = c .before .before .before .before in
-    let rows = k .before .before .args .t1 in
+    let scanned = k .before .before .args .t1 in
     let n = k .loop .n in
     let i = k .loop .inv in
-    let free : (l : List ℕ) → rows ≡ rowsOf l (sectorsOf l) → isFree (stateOf (sector n l)) ≡ true = λ l e. ap isFree (sym (row-state l rows e n (omega arith) _)) ∙ sym (c .before .is-free .ensures) ∙ c .if1 .taken in
+    let free : (l : List ℕ) → scanned ≡ scannedOf l (sectorsOf l) → isFree (stateOf (sector n l)) ≡ true = λ l e. ap isFree (sym (state-at l scanned e n (omega arith) _)) ∙ sym (c .before .is-free .ensures) ∙ c .if1 .taken in
     let room : k .loop .free-count < length (k .loop .free) = omega arith in (
       i .0,
       simp length-set (i .1),
@@ -50,10 +50,10 @@ loop-again c =
 loop-again-2 : tie.Need-loop-again-2 Inv-loop μ-loop
 loop-again-2 c =
     let k = c .before .before .before .before in
-    let rows = k .before .before .args .t1 in
+    let scanned = k .before .before .args .t1 in
     let n = k .loop .n in
     let i = k .loop .inv in
-    let used : (l : List ℕ) → rows ≡ rowsOf l (sectorsOf l) → isFree (stateOf (sector n l)) ≡ false = λ l e. ap isFree (sym (row-state l rows e n (omega arith) _)) ∙ sym (c .before .is-free .ensures) ∙ c .if1 .left in
+    let used : (l : List ℕ) → scanned ≡ scannedOf l (sectorsOf l) → isFree (stateOf (sector n l)) ≡ false = λ l e. ap isFree (sym (state-at l scanned e n (omega arith) _)) ∙ sym (c .before .is-free .ensures) ∙ c .if1 .left in
     let room : k .loop .count < length (k .loop .list) = omega arith in (
       simp length-set (i .0),
       i .1,
@@ -61,7 +61,7 @@ loop-again-2 c =
       omega arith,
       omega arith,
       λ l e. (
-        rw (add-one (k .loop .count)) (take-suc-set (k .loop .list) (k .loop .count) _ room ∙ rw (i .5 l e .0, row-record l rows e n (omega arith) _) (sym (pages-used l n (used l e)))),
+        rw (add-one (k .loop .count)) (take-suc-set (k .loop .list) (k .loop .count) _ room ∙ rw (i .5 l e .0, seen-at l scanned e n (omega arith) _) (sym (pages-used l n (used l e)))),
         i .5 l e .1 ∙ sym (frees-used l n (used l e)),
       ),
     )
@@ -71,15 +71,15 @@ unfolding pages frees
 returns c = λ l e.
     let k = c .before in
     let i = k .loop .inv in
-    let h : k .loop .n ≡ sectorsOf l = omega (arith, ap (λ (r : Rows). r .count) e) in
+    let h : k .loop .n ≡ sectorsOf l = omega (arith, ap (λ (r : Scanned). r .count) e) in
     record {
       sized = record { list = omega arith; free = omega arith; sixteen = i .0; sixteen-free = i .1 };
       list = i .5 l e .0 ∙ ap (pagesTo l) h;
       free = i .5 l e .1 ∙ ap (freesTo l) h;
     }
 
-pub list-rows-spec : {M : Type 1} → statement M
-list-rows-spec =
+pub list-seen-spec : {M : Type 1} → statement M
+list-seen-spec =
     tie.close
     (tie.spec
     Inv-loop
