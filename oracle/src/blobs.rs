@@ -33,21 +33,33 @@ impl<'a> Version<'a> {
         sum
     }
 
-    fn count(&self) -> usize {
-        if slipped(Slip::DistinctChunksCounted) {
-            return other_way::distinct_chunks(self);
-        }
-        self.chunks.len()
+    /// The chunk indices, ascending.
+    pub fn chunk_indices(&self) -> Vec<usize> {
+        let mut indices: Vec<usize> =
+            self.chunks.iter().map(|chunk| chunk.item.chunk_index().into()).collect();
+        indices.sort();
+        indices
     }
 
-    /// Not so: "No index [..] Chunk count or summed chunk sizes unlike the index".
+    /// Document 02, No. 2: "its chunk indices are exactly start, start + 1 and so on up to the count, each once".
+    /// Start is the version's, 0 or 0x80, whatever the index's byte is. In whole numbers: more than 128 chunks
+    /// never are.
+    pub fn exact(&self, index: &Found) -> bool {
+        let start = usize::from(index.item.start());
+        self.chunk_indices().into_iter().eq(start..start + index.item.chunk_count())
+    }
+
+    /// "No index: its chunks are erased." Document 02, No. 2: "a version is sound only if its chunk indices are
+    /// exactly [..], besides the size sum".
     pub fn sound(&self) -> bool {
+        let Some(index) = self.index() else {
+            return false;
+        };
         if slipped(Slip::IndexAloneIsUnsound) && self.chunks.is_empty() {
             return false;
         }
-        self.index().is_some_and(|index| {
-            self.count() == index.item.chunk_count() && self.summed_sizes() == index.item.blob_size()
-        })
+        let exact = other_way::exact(self, index).unwrap_or_else(|| self.exact(index));
+        exact && (slipped(Slip::SizesNotSummed) || self.summed_sizes() == index.item.blob_size())
     }
 
     /// "No index: its chunks are erased." Else "the index entry (one entry) is erased, then its chunks".
@@ -108,6 +120,9 @@ pub fn blobs(run: &mut Run, found: &[Found]) {
     }
     for (name, version) in &unsound {
         notes::unsound_version(run, &sound, &unsound, name);
+        if slipped(Slip::SecondCopyDropped) && other_way::drop_second_copies(run, version) {
+            continue;
+        }
         version.erase(run);
     }
     for [older, newer] in sound_pairs(&sound) {

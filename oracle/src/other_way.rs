@@ -11,7 +11,7 @@ use crate::record::Record;
 use crate::recover::stages;
 use crate::scan::{scan, Found, Lists, Page};
 use crate::sector::{entry_state, free, number, state, total, EntryState, State, ENTRIES, SECTOR_BYTES};
-use crate::slip::{slipped, Slip};
+use crate::slip::{slipped, switched_on, Slip};
 use crate::steps::{sector_of, state_words, Run, Stage, Step};
 
 /// Blank by less than all bytes; not without these slips.
@@ -150,8 +150,45 @@ pub fn takes_sequence(run: &Run) -> bool {
     run.list.iter().any(|tagged| matches!(tagged.step, Step::Program { word: 1, .. }))
 }
 
-pub fn distinct_chunks(version: &Version) -> usize {
-    version.chunks.iter().map(|chunk| chunk.item.chunk_index()).collect::<BTreeSet<u8>>().len()
+/// The chunk indices of a version judged by another rule; None without these slips.
+pub fn exact(version: &Version, index: &Found) -> Option<bool> {
+    let slip = switched_on()?;
+    let (start, count) = (usize::from(index.item.start()), index.item.chunk_count());
+    let byte = usize::from(index.item.header[29]);
+    let there = version.chunk_indices();
+    let distinct: BTreeSet<usize> = there.iter().copied().collect();
+    let counted = there.len() == count;
+    let differ = counted && distinct.len() == count;
+    let ends = || there.first() == Some(&start) && there.last() == Some(&(start + count - 1));
+    let in_order = || version.chunks.iter().map(|chunk| usize::from(chunk.item.chunk_index()));
+    let mut wrapped: Vec<usize> = (0..count).map(|chunk| start + chunk % 128).collect();
+    wrapped.sort();
+    Some(match slip {
+        Slip::CountAndSizeAlone => counted,
+        Slip::ExactButNamespace0 if index.item.namespace() == 0 => counted,
+        Slip::ChunksFromStartByte => there.into_iter().eq(byte..byte + count),
+        Slip::CountIncluded => there.into_iter().eq(start..=start + count),
+        Slip::NoneAboveCount => differ && there.iter().all(|number| *number <= start + count),
+        Slip::EachOnceIsEnough => differ,
+        Slip::FirstAndLastAreEnough => counted && (count == 0 || ends()),
+        Slip::DistinctChunksCounted => distinct.into_iter().eq(start..start + count),
+        Slip::ChunksInOrder => in_order().eq(start..start + count),
+        Slip::NumbersWrapAt128 => there == wrapped,
+        Slip::NoneAt256 => version.exact(index) && start + count < 256,
+        _ => return None,
+    })
+}
+
+/// Erases of each chunk index all chunks but the first, where what is left is then sound. The answer: whether it is.
+pub fn drop_second_copies(run: &mut Run, version: &Version) -> bool {
+    let mut seen = BTreeSet::new();
+    let (first, second): (Vec<&Found>, Vec<&Found>) =
+        version.chunks.iter().partition(|chunk| seen.insert(chunk.item.chunk_index()));
+    let saved = Version { indices: version.indices.clone(), chunks: first }.sound();
+    for chunk in second.iter().filter(|_| saved) {
+        run.erase_entries(chunk.sector, chunk.item.entry, chunk.item.span());
+    }
+    saved
 }
 
 /// The older of two by the oldest index of each, or the one whose sector comes later.

@@ -72,8 +72,20 @@ slips! {
     LastIndexCounts "R26" "the last index in the list counts, not the newest",
     IndexErasedByItsSpan "R27" "stage 3 erases an index by its whole span",
     IndexAloneIsUnsound "R28" "an index without chunks is not sound",
-    DistinctChunksCounted "R28" "distinct chunk indices are counted, not chunks",
     SizesWrapAt16Bits "R28" "summed chunk sizes wrap at 16 bits",
+    CountAndSizeAlone "No. 2" "chunk indices are not looked at: count and size are enough",
+    ChunksFromStartByte "No. 2" "chunk indices run from the index's own start byte",
+    CountIncluded "No. 2" "chunk indices run up to start + count, one more than the count",
+    NoneAboveCount "No. 2" "chunk indices that differ, none above start + count, are enough",
+    EachOnceIsEnough "No. 2" "chunk indices that differ are enough",
+    FirstAndLastAreEnough "No. 2" "the first and the last chunk index are enough",
+    DistinctChunksCounted "No. 2" "a chunk index stored twice counts once",
+    SecondCopyDropped "No. 2" "a second copy of a chunk is dropped to save the blob",
+    ChunksInOrder "No. 2" "chunks have to stand in order in the list",
+    ExactButNamespace0 "No. 2" "in namespace 0 count and size are enough",
+    NumbersWrapAt128 "No. 2" "chunk indices begin again at start after 128 chunks",
+    NoneAt256 "No. 2" "128 chunks of start 0x80 are not sound",
+    SizesNotSummed "No. 2" "sizes are no longer summed",
     KeyBeforeStart "R29" "versions ascend by (namespace, key, start)",
     OlderOfTwoInOnePass "R29" "the older of two is erased in the same pass as the others",
     OlderByOldestIndex "R29" "the older of two goes by each version's oldest index",
@@ -99,9 +111,13 @@ thread_local! {
     static SWITCHED_ON: Cell<Option<Slip>> = const { Cell::new(None) };
 }
 
+pub fn switched_on() -> Option<Slip> {
+    SWITCHED_ON.get()
+}
+
 /// Whether this slip is switched on.
 pub fn slipped(slip: Slip) -> bool {
-    SWITCHED_ON.get() == Some(slip)
+    switched_on() == Some(slip)
 }
 
 /// What `answer` gives with this slip switched on.
