@@ -328,6 +328,7 @@ fn branches_of_listing(case: &Case) -> Branches {
         (shows("corrupt"), Branch::ListingCorrupt),
         (counts().any(|count| count == "0"), Branch::ListingUnreadNone),
         (counts().any(|count| count != "0"), Branch::ListingUnread),
+        (outcome.branches.contains(&Branch::BlobNumbersUnlike), Branch::ListingNumbersUnlike),
     ];
     let mut met = &outcome.branches | &held(&conditions);
     if outcome.result == 0 {

@@ -1,5 +1,6 @@
 //! Draws an image: the states of its sectors, their sequences, the pieces on them.
 
+use crate::blob_images::{full_pages, long_blob};
 use crate::draw_page::{draw_corrupt, draw_draft, Draft};
 use crate::draw_pieces::{draw_pieces, Piece};
 use crate::items::{items, Item};
@@ -176,11 +177,23 @@ fn draw_sectors(random: &mut Random, states: &[State], sequences: &[u32]) -> Vec
     image
 }
 
+/// A version of about 128 chunks and its index, in any order and nothing torn: one piece lost of so many is the
+/// usual thing.
+fn draw_long_version(random: &mut Random) -> Vec<u8> {
+    let count = 127 + random.below(3) as u8;
+    let mut items = long_blob("a", count, random.choose(&[0x00, 0x80]));
+    random.shuffle(&mut items);
+    full_pages(&items)
+}
+
 /// An image of 2 to 16 whole sectors. `without_active` leans to images that reclaim does not refuse.
 pub fn draw_image(random: &mut Random, without_active: bool) -> Vec<u8> {
     let sectors = draw_sector_count(random);
     if random.once_in(100) {
         return vec![0xFF; SECTOR_BYTES * sectors];
+    }
+    if random.once_in(200) {
+        return draw_long_version(random);
     }
     let states = draw_states(random, sectors, without_active);
     let sequences = draw_sequences(random, sectors);

@@ -112,21 +112,48 @@ fn draw_chunk(random: &mut Random, namespace: u8, key: Key, chunk_index: u8) -> 
     Fields { namespace, kind: CHUNK, span, chunk_index, key, data: chunk_data(size) }
 }
 
+/// Chunk indices that are not start, start + 1 and so on, with the count and the sizes as they were: one twice in
+/// the place of another, a gap, all one up, from the index's own start byte, of the other start, any.
+fn draw_wrong_numbers(random: &mut Random, chunks: &mut [Fields], start_byte: u8) {
+    if chunks.is_empty() {
+        return;
+    }
+    let up = |chunk: &mut Fields, by: u8| {
+        let number = chunk.chunk_index.wrapping_add(by) & 0x7F;
+        chunk.chunk_index = start_of_byte(chunk.chunk_index) | number;
+    };
+    let (one, middle) = (random.below(chunks.len()), chunks.len() / 2);
+    let next = |chunk: usize| (chunk + 1) % chunks.len();
+    match random.below(8) {
+        0 => chunks[one].chunk_index = chunks[next(one)].chunk_index,
+        1 => chunks[middle].chunk_index = chunks[next(middle)].chunk_index,
+        2 | 3 => chunks[one..].iter_mut().for_each(|chunk| up(chunk, 1)),
+        4 => chunks.iter_mut().for_each(|chunk| up(chunk, 1)),
+        5 => chunks.iter_mut().for_each(|chunk| up(chunk, start_byte)),
+        6 => chunks.iter_mut().for_each(|chunk| chunk.chunk_index ^= 0x80),
+        _ => up(&mut chunks[one], random.byte()),
+    }
+}
+
+fn size_of(chunk: &Fields) -> u32 {
+    u16::from_le_bytes([chunk.data[0], chunk.data[1]]).into()
+}
+
 /// A version of a blob: chunks and the index that fits them, then perhaps a fault.
 fn draw_version(random: &mut Random, names: &Names, name: (u8, Key), start: u8) -> Vec<Piece> {
     let (namespace, key) = name;
-    let count = random.choose(&[0, 0, 1, 1, 1, 2, 2, 3]);
+    let count = random.choose(&[0, 0, 1, 1, 1, 2, 2, 3, 3]);
     let mut parts = Vec::new();
     for chunk in 0..count {
-        let chunk_index = start_of_byte(start) + chunk;
-        let chunk_index =
-            if random.once_in(8) { chunk_index ^ (random.byte() & 0x7F) } else { chunk_index };
-        parts.push(draw_chunk(random, namespace, key, chunk_index));
+        parts.push(draw_chunk(random, namespace, key, start_of_byte(start) + chunk));
     }
-    let size = parts.iter().map(|chunk| u32::from(chunk.data[0]) | u32::from(chunk.data[1]) << 8).sum();
+    let size = parts.iter().map(size_of).sum();
     let span = if random.once_in(5) { 2 + random.below(2) as u8 } else { 1 };
     let data = index_data(size, count, start);
     let index = Fields { namespace, kind: BLOB_INDEX, span, chunk_index: 0xFF, key, data };
+    if random.once_in(3) {
+        draw_wrong_numbers(random, &mut parts, start);
+    }
     draw_blob_fault(random, &mut parts, index);
     parts.into_iter().map(|fields| piece_of(random, names, fields)).collect()
 }
@@ -144,6 +171,11 @@ fn draw_blob_fault(random: &mut Random, parts: &mut Vec<Fields>, mut index: Fiel
         6 | 7 => parts.push(index),
         8 => parts.push(Fields { data: index_data(random.next() as u32, random.byte(), start), ..index }),
         9 if !parts.is_empty() => parts.push(random.choose(parts)),
+        10 if !parts.is_empty() => {
+            let copy = random.choose(parts);
+            parts.push(copy);
+            index.data = index_data(size + size_of(&copy), count, start);
+        }
         _ => {}
     }
     parts.push(index);
@@ -151,7 +183,7 @@ fn draw_blob_fault(random: &mut Random, parts: &mut Vec<Fields>, mut index: Fiel
 
 fn draw_blob(random: &mut Random, names: &Names) -> Vec<Piece> {
     let name = (random.choose(&names.namespaces), random.choose(&names.keys));
-    let start = random.choose(&[0, 0, 0, 0x80, 0x80, 0x80, 1, 0x7F, 0x81, 0xFF]);
+    let start = random.choose(&[0, 0, 0, 0x80, 0x80, 0x80, 1, 3, 0x7F, 0x81, 0xFF]);
     let mut pieces = draw_version(random, names, name, start);
     if !random.once_in(3) {
         pieces.extend(draw_version(random, names, name, start ^ 0x80));

@@ -2,6 +2,7 @@
 //! file holds; main.rs has the commands.
 
 pub mod active_order;
+pub mod blob_images;
 pub mod blobs;
 pub mod branch;
 pub mod case_branches;

@@ -19,16 +19,21 @@ pub struct Catch {
     pub first: Option<(u64, Operation)>,
 }
 
+/// The slips with which the answer is another one.
+pub fn caught_by(case: &Case) -> Vec<Slip> {
+    let right = answer(case);
+    let caught = |slip: &&Slip| with_slip(**slip, || answer(case)) != right;
+    Slip::ALL.iter().filter(caught).copied().collect()
+}
+
 /// The catches of each slip, in the order of `Slip::ALL`, among these cases.
 pub fn catches(cases: impl Iterator<Item = Case>) -> Vec<Catch> {
     let mut catches = vec![Catch::default(); Slip::ALL.len()];
     for (place, case) in cases.enumerate() {
-        let right = answer(&case);
-        for (slip, catch) in Slip::ALL.iter().zip(&mut catches) {
-            if with_slip(*slip, || answer(&case)) != right {
-                catch.count += 1;
-                catch.first.get_or_insert((place as u64, case.operation));
-            }
+        for slip in caught_by(&case) {
+            let catch = &mut catches[slip as usize];
+            catch.count += 1;
+            catch.first.get_or_insert((place as u64, case.operation));
         }
     }
     catches

@@ -1,11 +1,10 @@
 //! The cases that documents 01 and 02 name, each built by hand.
 
-use crate::items::{BLOB_INDEX, CHUNK};
+use crate::blob_images::blob_images;
+use crate::items::BLOB_INDEX;
 use crate::protocol::{Case, Operation};
 use crate::sector::{EntryState, ACTIVE_WORD, ENTRIES, ENTRY_BYTES, FREEING_WORD, FULL_WORD, SECTOR_BYTES};
-use crate::writing::{
-    blank_sector, chunk_data, empty_page, index_data, key_of, set_entry, set_entry_state, Fields,
-};
+use crate::writing::{blank_sector, empty_page, index_data, key_of, set_entry, set_entry_state, Fields};
 
 /// A one-entry item of namespace 1 and type 0x01.
 pub fn number_item(key: &str, value: u8) -> Fields {
@@ -202,7 +201,8 @@ fn unread_images(operation: Operation) -> Vec<Vec<u8>> {
 
 pub fn named_cases(operation: Operation) -> Vec<Case> {
     let case = |image| Case { operation, allowance: u64::MAX, records: 16, image };
-    named_images(operation).into_iter().chain(unread_images(operation)).map(case).collect()
+    let images = [named_images(operation), unread_images(operation), blob_images(operation)];
+    images.into_iter().flatten().map(case).collect()
 }
 
 /// An item of 17 entries, so of two state words, whose payload reads as items; and an Erased entry.
@@ -214,19 +214,6 @@ fn payload_like_items() -> Vec<u8> {
     [full, blank_sector()].concat()
 }
 
-/// A Freeing page and an Active page that has the first of its two items.
-fn partial_copy_beside_freeing() -> Vec<u8> {
-    let freeing = page(FREEING_WORD, 3, &[number_item("a", 1), number_item("b", 2)]);
-    [freeing, page(ACTIVE_WORD, 4, &[number_item("a", 1)])].concat()
-}
-
-/// A blob of two chunks that have one chunk index: sound, for chunks are counted.
-fn one_chunk_index_twice() -> Vec<u8> {
-    let chunk = Fields { kind: CHUNK, chunk_index: 0, data: chunk_data(5), ..number_item("a", 0) };
-    let index = Fields { kind: BLOB_INDEX, data: index_data(10, 2, 0), ..number_item("a", 0) };
-    [blank_sector(), page(FULL_WORD, 7, &[chunk, chunk, index])].concat()
-}
-
 /// Two sectors that are Blank but for one byte: the first behind the eight first, and the last of all.
 fn nearly_blank() -> Vec<u8> {
     let (mut first, mut second) = (blank_sector(), blank_sector());
@@ -235,9 +222,8 @@ fn nearly_blank() -> Vec<u8> {
     [first, second].concat()
 }
 
-/// Cases for slips that the cases chosen by their branches do not show (slip.rs): a copy stopped between its
-/// two state words, a finish stopped at the copy's erasure, two chunks of one chunk index, and sectors that are
-/// Corrupt by one byte alone.
+/// Cases for slips that the generated cases show seldom (slip.rs): a copy stopped between its two state words, and
+/// sectors that are Corrupt by one byte alone.
 pub fn slip_cases(operation: Operation) -> Vec<Case> {
     let case = |allowance, image| Case { operation, allowance, records: 16, image };
     let marked_and_initialised = 1 + 8;
@@ -246,13 +232,7 @@ pub fn slip_cases(operation: Operation) -> Vec<Case> {
         Operation::Reclaim => {
             vec![case(marked_and_initialised + words_and_one_of_states, payload_like_items())]
         }
-        Operation::Recover => {
-            vec![
-                case(0, partial_copy_beside_freeing()),
-                case(u64::MAX, one_chunk_index_twice()),
-                case(u64::MAX, nearly_blank()),
-            ]
-        }
+        Operation::Recover => vec![case(u64::MAX, nearly_blank())],
         Operation::ItemReader | Operation::Listing => Vec::new(),
     }
 }

@@ -1,14 +1,15 @@
 //! What the coverage table wants to know of a rule beyond the way that it took: most of all, where another
 //! reading of its sentence would decide otherwise. Nothing here changes a step.
 
-use std::collections::BTreeMap;
+use std::collections::{BTreeMap, BTreeSet};
 
 use crate::active_order::kept_place;
 use crate::blobs::{Version, Versions};
 use crate::branch::Branch;
 use crate::duplicates::chunks_of;
 use crate::finish::{holds_each, is_copy, newest_has_it_all};
-use crate::items::{items, Item, Key};
+use crate::items::{items, unread, Item, Key};
+use crate::other_way;
 use crate::reclaim::{most_points, Candidate};
 use crate::recover::{freeing_pages, judge_items, sequences_run_out};
 use crate::scan::{greatest, Found, Lists, Page};
@@ -188,6 +189,7 @@ fn branch_of_soundness(version: &Version) -> Branch {
     let count_alike = version.chunks.len() == index.item.chunk_count();
     let size_alike = version.summed_sizes() == index.item.blob_size();
     match (count_alike, size_alike, version.chunks.len()) {
+        (true, true, _) if !version.exact(index) => Branch::BlobNumbersUnlike,
         (true, true, 0) => Branch::BlobSoundEmpty,
         (true, true, 1) => Branch::BlobSoundOneChunk,
         (true, true, _) => Branch::BlobSoundSeveralChunks,
@@ -203,19 +205,60 @@ pub fn sound_versions(run: &mut Run, sound: &Versions) {
         if sound.contains_key(&(*namespace, start ^ 0x80, *key)) {
             continue;
         }
-        let mut chunk_indices: Vec<u8> =
-            version.chunks.iter().map(|chunk| chunk.item.chunk_index()).collect();
-        chunk_indices.sort();
-        chunk_indices.dedup();
         let conditions = [
             (true, branch_of_soundness(version)),
             (*namespace == 0, Branch::BlobNamespace0),
-            (chunk_indices.len() < version.chunks.len(), Branch::BlobSoundSameChunkTwice),
             (version.summed_sizes() > 0xFFFF, Branch::BlobSoundPast16Bits),
         ];
         run.met_each(&conditions);
+        exact_numbers(run, version, *start);
         several_indices(run, version);
     }
+}
+
+/// Document 02, No. 2: where more than its sentence would be asked of a sound version.
+fn exact_numbers(run: &mut Run, version: &Version, start: u8) {
+    let chunks = version.chunks.len();
+    let byte = version.index().map(|index| index.item.header[29]);
+    let in_list: Vec<u8> = version.chunks.iter().map(|chunk| chunk.item.chunk_index()).collect();
+    let conditions = [
+        (chunks > 0 && start == 0x80, Branch::BlobSoundStart80),
+        (chunks > 0 && byte != Some(start), Branch::BlobSoundOtherByte),
+        (!in_list.is_sorted(), Branch::BlobSoundOutOfOrder),
+        (chunks == 128 && start == 0x80, Branch::BlobSound128),
+    ];
+    run.met_each(&conditions);
+}
+
+/// Where less than that would find an unsound version sound.
+fn wrong_numbers(run: &mut Run, version: &Version) {
+    let Some(index) = version.index() else { return };
+    let (start, count) = (usize::from(index.item.start()), index.item.chunk_count());
+    let byte = usize::from(index.item.header[29]);
+    let there = version.chunk_indices();
+    let distinct: BTreeSet<usize> = there.iter().copied().collect();
+    let size_alike = version.summed_sizes() == index.item.blob_size();
+    let fits = size_alike && there.len() == count && !version.exact(index);
+    let each_once = fits && distinct.len() == there.len();
+    let from_start = there.first() == Some(&start);
+    let no_gap = there.windows(2).all(|two| two[0] + 1 == two[1]);
+    let second_copy = there.len() > count && distinct.into_iter().eq(start..start + count);
+    let (first, _) = other_way::copies(version);
+    let without_copies = Version { indices: version.indices.clone(), chunks: first };
+    let conditions = [
+        (fits && !each_once, Branch::BlobNumberTwice),
+        (each_once && from_start, Branch::BlobGap),
+        (each_once && no_gap, Branch::BlobShifted),
+        (fits && there.iter().copied().eq(byte..byte + count), Branch::BlobFromStartByte),
+        (each_once && there.last() == Some(&(start + count)), Branch::BlobUpToCount),
+        (fits && from_start && there.last() == Some(&(start + count - 1)), Branch::BlobFirstAndLast),
+        (fits && there == other_way::numbers_again(start, count), Branch::BlobNumbersAgain),
+        (fits && index.item.namespace() == 0, Branch::BlobNumbersNamespace0),
+        (size_alike && there.iter().copied().eq(start..=start + count), Branch::BlobOneTooMany),
+        (size_alike && second_copy, Branch::BlobCopyOfSizeOfAll),
+        (second_copy && without_copies.sound(), Branch::BlobCopyOfSizeOfOne),
+    ];
+    run.met_each(&conditions);
 }
 
 fn several_indices(run: &mut Run, version: &Version) {
@@ -240,14 +283,20 @@ pub fn unsound_version(run: &mut Run, sound: &Versions, unsound: &Versions, name
     let size = version.index().map_or(0, |index| index.item.blob_size());
     let low_bits_alike = size & 0xFFFF == version.summed_sizes() & 0xFFFF;
     let long_span = version.index().is_some_and(|index| index.item.span() > 1);
+    let newness = |version: &Version| version.index().map(|index| index.newness());
+    let newer_than_sound = sound.get(&other_start).is_some_and(|other| newness(other) < newness(version));
     let conditions = [
         (only_of_key, branch),
+        (branch == Branch::BlobNumbersUnlike && newer_than_sound, Branch::BlobNumbersNewer),
         (branch == Branch::BlobSizeUnlike && low_bits_alike, Branch::BlobSizeUnlikePast16Bits),
         (version.indices.len() > 1, Branch::BlobOlderIndexStays),
         (long_span, Branch::BlobIndexOfLongSpan),
         (*namespace == 0, Branch::BlobNamespace0Erased),
     ];
     run.met_each(&conditions);
+    if only_of_key {
+        wrong_numbers(run, version);
+    }
     several_indices(run, version);
     if greater_key_before {
         run.met_if_stopped_here(Branch::BlobStoppedStartBeforeKey);
@@ -343,10 +392,11 @@ pub fn choice(run: &mut Run, pages: &[Page], candidates: &[Candidate], chosen: &
     let of = |candidate: &Candidate, state| total(run.sector(candidate.page.sector), state);
     let age = |candidate: &Candidate| candidate.next - u64::from(candidate.page.sequence);
     let other = |points: &dyn Fn(&Candidate) -> u64| most_points(candidates, points) != Some(*chosen);
-    let with_illegal = |candidate: &Candidate| {
-        let erased = candidate.erased + of(candidate, EntryState::Illegal);
-        Candidate { erased, ..*candidate }.points()
+    let with = |candidate: &Candidate, more: u32| {
+        Candidate { erased: candidate.erased + more, ..*candidate }.points()
     };
+    let with_illegal = |candidate: &Candidate| with(candidate, of(candidate, EntryState::Illegal));
+    let with_unread = |candidate: &Candidate| with(candidate, unread(run.sector(candidate.page.sector)));
     let in_32_bits = |candidate: &Candidate| u64::from(candidate.points() as u32);
     let in_32_bit_next = |candidate: &Candidate| {
         let age = (candidate.next as u32).wrapping_sub(candidate.page.sequence);
@@ -364,6 +414,7 @@ pub fn choice(run: &mut Run, pages: &[Page], candidates: &[Candidate], chosen: &
         (other(&in_32_bit_next), Branch::ReclaimNextPast32BitsDecides),
         (other(&in_32_bits), Branch::ReclaimPointsPast32BitsDecide),
         (other(&with_illegal), Branch::ReclaimIllegalWouldDecide),
+        (other(&with_unread), Branch::ReclaimUnreadWouldDecide),
         (other(&with_age), Branch::ReclaimAgeWouldDecide),
     ];
     run.met_each(&conditions);

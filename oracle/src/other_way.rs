@@ -161,8 +161,6 @@ pub fn exact(version: &Version, index: &Found) -> Option<bool> {
     let differ = counted && distinct.len() == count;
     let ends = || there.first() == Some(&start) && there.last() == Some(&(start + count - 1));
     let in_order = || version.chunks.iter().map(|chunk| usize::from(chunk.item.chunk_index()));
-    let mut wrapped: Vec<usize> = (0..count).map(|chunk| start + chunk % 128).collect();
-    wrapped.sort();
     Some(match slip {
         Slip::CountAndSizeAlone => counted,
         Slip::ExactButNamespace0 if index.item.namespace() == 0 => counted,
@@ -173,17 +171,28 @@ pub fn exact(version: &Version, index: &Found) -> Option<bool> {
         Slip::FirstAndLastAreEnough => counted && (count == 0 || ends()),
         Slip::DistinctChunksCounted => distinct.into_iter().eq(start..start + count),
         Slip::ChunksInOrder => in_order().eq(start..start + count),
-        Slip::NumbersWrapAt128 => there == wrapped,
+        Slip::NumbersAgainAfter128 => there == numbers_again(start, count),
         Slip::NoneAt256 => version.exact(index) && start + count < 256,
         _ => return None,
     })
 }
 
-/// Erases of each chunk index all chunks but the first, where what is left is then sound. The answer: whether it is.
-pub fn drop_second_copies(run: &mut Run, version: &Version) -> bool {
+/// So many chunk indices, from the start again after 128 of them, ascending.
+pub fn numbers_again(start: usize, count: usize) -> Vec<usize> {
+    let mut numbers: Vec<usize> = (0..count).map(|chunk| start + chunk % 128).collect();
+    numbers.sort();
+    numbers
+}
+
+/// The first chunk of each chunk index, and the others.
+pub fn copies<'a>(version: &Version<'a>) -> (Vec<&'a Found>, Vec<&'a Found>) {
     let mut seen = BTreeSet::new();
-    let (first, second): (Vec<&Found>, Vec<&Found>) =
-        version.chunks.iter().partition(|chunk| seen.insert(chunk.item.chunk_index()));
+    version.chunks.iter().partition(|chunk| seen.insert(chunk.item.chunk_index()))
+}
+
+/// Erases the second copies of chunks, where that leaves a sound version. The answer: whether it does.
+pub fn drop_second_copies(run: &mut Run, version: &Version) -> bool {
+    let (first, second) = copies(version);
     let saved = Version { indices: version.indices.clone(), chunks: first }.sound();
     for chunk in second.iter().filter(|_| saved) {
         run.erase_entries(chunk.sector, chunk.item.entry, chunk.item.span());

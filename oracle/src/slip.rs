@@ -83,7 +83,7 @@ slips! {
     SecondCopyDropped "No. 2" "a second copy of a chunk is dropped to save the blob",
     ChunksInOrder "No. 2" "chunks have to stand in order in the list",
     ExactButNamespace0 "No. 2" "in namespace 0 count and size are enough",
-    NumbersWrapAt128 "No. 2" "chunk indices begin again at start after 128 chunks",
+    NumbersAgainAfter128 "No. 2" "after 128 chunks the chunk indices begin at start again",
     NoneAt256 "No. 2" "128 chunks of start 0x80 are not sound",
     SizesNotSummed "No. 2" "sizes are no longer summed",
     KeyBeforeStart "R29" "versions ascend by (namespace, key, start)",
