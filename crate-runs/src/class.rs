@@ -2,6 +2,7 @@
 
 use std::collections::{BTreeMap, BTreeSet};
 
+use model::blobs::{versions as blob_versions, Version};
 use model::branch::Branch;
 use model::items::{entry_crc, items, walk, Item, Met, KNOWN_TYPES};
 use model::protocol::{Case, Operation};
@@ -175,8 +176,8 @@ fn settles_alike(image: &[u8]) -> Judged {
     unless(sequences.len() < pages.len(), "equal sequences")?;
     let mut versions = BTreeSet::new();
     let mut chunk_bytes = BTreeMap::new();
-    for found in found(image, &pages) {
-        let item = found.item;
+    let found = found(image, &pages);
+    for item in found.iter().map(|found| found.item) {
         let part = item.is_chunk() || item.is_blob_index();
         unless(part && item.namespace() == 0, "blob part in namespace 0")?;
         if item.is_blob_index() {
@@ -189,7 +190,17 @@ fn settles_alike(image: &[u8]) -> Judged {
             unless(byte != item.chunk_index(), "unlike chunk index bytes of a key")?;
         }
     }
-    Ok(())
+    let unlike = blob_versions(&found).values().any(indices_alone_wrong);
+    unless(unlike, "chunk indices that alone are wrong")
+}
+
+/// Document 02, No. 2: the crate compares a count and a size, so it leaves such a version.
+fn indices_alone_wrong(version: &Version) -> bool {
+    version.index().is_some_and(|index| {
+        let fits = version.chunks.len() == index.item.chunk_count()
+            && version.summed_sizes() == index.item.blob_size();
+        fits && !version.exact(index)
+    })
 }
 
 /// A stopped call agrees where both have made the same steps: in stages 1 and 2 and in reclaim, but not among

@@ -37,6 +37,7 @@ pub fn all() -> Vec<Named> {
             finish::choices(),
             finish::torn(),
             settling::blobs(),
+            settling::numbers(),
             settling::duplicates(),
         ])
         .chain([reclaim::refusals(), reclaim::choices()])

@@ -73,10 +73,22 @@ fn draw_chunks(random: &mut Random, named: Fields, start: u8, count: usize) -> (
     (chunks, size)
 }
 
+/// One chunk index twice, or a gap. Where nothing else is wrong the store is outside the class.
+fn draw_wrong_indices(random: &mut Random, chunks: &mut [Piece]) {
+    let Some((last, before)) = chunks.split_last_mut() else { return };
+    last.0.chunk_index = match before.first() {
+        Some(first) if random.once_in(2) => first.0.chunk_index,
+        _ => last.0.chunk_index + 1,
+    };
+}
+
 /// A blob of one start: chunks and an index, sound or with one thing wrong.
 fn draw_version(random: &mut Random, named: Fields, start: u8) -> Vec<Piece> {
     let count = random.below(4);
     let (mut pieces, mut size) = draw_chunks(random, named, start, count);
+    if random.once_in(16) {
+        draw_wrong_indices(random, &mut pieces);
+    }
     let mut told = count as u8;
     match random.below(10) {
         0 => told += 1,

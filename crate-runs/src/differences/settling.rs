@@ -13,6 +13,18 @@ fn sound(page: Page, start: u8) -> Page {
     page.chunk("k", start, &PAYLOAD).index("k", 20, 1, start)
 }
 
+/// A number, a blob of two chunks of these chunk indices, whose count and size its index has, and a sound blob.
+fn two_chunks(name: &'static str, chunk_indices: [u8; 2]) -> Named {
+    let [one, other] = chunk_indices;
+    let page = Page::full(5).number("n", 1).chunk("b", one, &PAYLOAD).chunk("b", other, &PAYLOAD);
+    recover(name, image(&[&sound(page.index("b", 40, 2, 0), 0), &Page::blank()]))
+}
+
+/// Document 02, No. 2: the crate leaves both, for count and size are right.
+pub fn numbers() -> Vec<Named> {
+    vec![two_chunks("one-chunk-twice", [0, 0]), two_chunks("chunks-0-and-2", [0, 2])]
+}
+
 pub fn blobs() -> Vec<Named> {
     let blank = Page::blank();
     let (new, old) = (sound(Page::full(9), 0), Page::full(5).index("k", 99, 3, 0));
