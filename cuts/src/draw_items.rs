@@ -97,13 +97,12 @@ fn draw_namespace_0(random: &mut Random, names: &mut Names, room: usize) -> Vec<
     group
 }
 
-/// The chunks of a version and the index that fits them.
+/// The chunks of a version, start, start + 1 and so on, and the index that fits them.
 pub fn draw_blob(random: &mut Random, name: (u8, Key), room: usize) -> Vec<Fields> {
     let (namespace, key) = name;
     let start_byte = random.choose(&[0, 0, 0x80, 0x80, 1, 0x7F, 0x81, 0xFF]);
     let start = start_byte & 0x80;
     let count = random.choose(&[0, 1, 1, 2, 2, 3, 5]);
-    let apart = 1 + random.below(20) as u8;
     let mut group = Vec::new();
     let mut size = 0u32;
     for chunk in 0..count {
@@ -114,7 +113,7 @@ pub fn draw_blob(random: &mut Random, name: (u8, Key), room: usize) -> Vec<Field
         };
         let bytes = random.choose(&[0, 0xFFFF, 32 * (u16::from(span) - 1), 1, 31]);
         size += u32::from(bytes);
-        let (chunk_index, data) = (start + apart * chunk, chunk_data(bytes));
+        let (chunk_index, data) = (start + chunk, chunk_data(bytes));
         group.push(Fields { namespace, kind: CHUNK, span, chunk_index, key, data });
     }
     let span = if random.once_in(6) { (2 + random.below(2)).min(room) as u8 } else { 1 };

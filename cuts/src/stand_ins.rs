@@ -169,8 +169,14 @@ fn recover_erases_chunks_first(image: &[u8]) -> Listed {
     })
 }
 
-/// The names under which they can be run, the model first; the last two mutants go wrong on unsettled stores alone.
-pub const NAMES: [&str; 7] = [
+/// Mutant: versions are judged by count and size alone, as before No. 2 of document 02: those stay whose chunk indices
+/// alone are wrong.
+fn recover_counts_and_sums(image: &[u8]) -> Listed {
+    with_slip(Slip::CountAndSizeAlone, || model_recover(image))
+}
+
+/// The names under which they can be run, the model first; the last three mutants go wrong on unsettled stores alone.
+pub const NAMES: [&str; 8] = [
     "model",
     "early-erasure",
     "downward-marks",
@@ -178,6 +184,7 @@ pub const NAMES: [&str; 7] = [
     "resumed-copy",
     "upward-erasure",
     "chunks-first",
+    "count-and-size",
 ];
 
 pub fn stand_in(name: &str) -> Option<StandIn> {
@@ -189,6 +196,7 @@ pub fn stand_in(name: &str) -> Option<StandIn> {
         "resumed-copy" => (model_reclaim, recover_resumes),
         "upward-erasure" => (model_reclaim, recover_erases_upwards),
         "chunks-first" => (model_reclaim, recover_erases_chunks_first),
+        "count-and-size" => (model_reclaim, recover_counts_and_sums),
         _ => return None,
     };
     Some(StandIn::new(reclaim, recover))

@@ -1,4 +1,4 @@
-//! The check passes the model and sees each of its mutants, the last two on unsettled stores alone.
+//! The check passes the model and sees each of its mutants, the last three on unsettled stores alone.
 
 use crate::kind::Kind;
 use crate::stand_ins::{stand_in, NAMES};
@@ -26,7 +26,7 @@ fn each_mutant_fails_on_unsettled_stores() {
 }
 
 #[test]
-fn all_but_the_last_two_fail_on_settled_stores() {
+fn all_but_the_last_three_fail_on_settled_stores() {
     for name in &NAMES[1..5] {
         assert!(!passes(name, Kind::Settled), "{name} passes");
     }

@@ -34,6 +34,11 @@ fn compared(version: &Version, holds: fn((usize, usize), (u64, u64)) -> bool) ->
     })
 }
 
+/// Count and size fit the index, so it is the chunk indices: they are not start, start + 1 and so on.
+fn indices_alone_wrong(version: &Version) -> bool {
+    compared(version, |(count, chunks), (size, sum)| count == chunks && size == sum)
+}
+
 /// Whether the index fits what is left once some of the chunks are erased: so it has to go before them.
 fn fits_on_the_way(version: &Version) -> bool {
     let left = |erased: usize| Version {
@@ -51,8 +56,13 @@ pub const OF_VERSION: &[(&str, OfVersion)] = &[
     ("with an index, without chunks", |version| version.chunks.is_empty()),
     ("with fewer chunks than counted", |version| compared(version, |(count, chunks), _| chunks < count)),
     ("with more chunks than counted", |version| compared(version, |(count, chunks), _| chunks > count)),
-    ("whose count alone is wrong", |version| compared(version, |_, (size, sum)| size == sum)),
-    ("whose size alone is wrong", |version| compared(version, |(count, chunks), _| count == chunks)),
+    ("whose count alone is wrong", |version| {
+        compared(version, |(count, chunks), (size, sum)| count != chunks && size == sum)
+    }),
+    ("whose size alone is wrong", |version| version.index().is_some_and(|index| version.exact(index))),
+    ("whose chunk indices alone are wrong", indices_alone_wrong),
+    ("such a one with a gap", |version| indices_alone_wrong(version) && has_gap(version)),
+    ("such a one without a gap", |version| indices_alone_wrong(version) && !has_gap(version)),
     ("that fits its index once some chunks are erased", fits_on_the_way),
     ("with a gap in the chunk indices", has_gap),
     ("over two pages or more", |version| pages(version) > 1),
