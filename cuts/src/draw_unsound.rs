@@ -1,5 +1,7 @@
 //! Draws blobs of which recovery has something to erase: sound ones that are then spoiled.
 
+use std::collections::BTreeSet;
+
 use oracle::draw_pieces::Piece;
 use oracle::items::{Key, BLOB_INDEX, CHUNK};
 use oracle::random::Random;
@@ -42,7 +44,7 @@ impl Blob {
 
     fn add_chunks(&mut self, random: &mut Random, start: u8) {
         let (namespace, key) = self.name;
-        for _ in 0..1 + random.below(3) {
+        for _ in 0..random.choose(&[1, 1, 1, 2, 3]) {
             let chunk_index = self.unused(random, start);
             let span = draw_span(random, self.room);
             let data = chunk_data(random.choose(&[0, 0, 1, 31, 32, 0xFFFF]));
@@ -58,32 +60,34 @@ impl Blob {
         }
     }
 
-    /// All chunk indices from some chunk on so much higher: a gap, or none that begins at the start. Each is still
-    /// there once, and count and size fit.
+    /// All chunk indices from some chunk on so much higher: mostly a gap, else none that begins at the start. Each is
+    /// still there once, and count and size fit.
     fn move_up(&mut self, random: &mut Random) {
         let chunks = self.parts.iter().filter(|part| part.kind == CHUNK);
-        let indices: Vec<u8> = chunks.map(|part| part.chunk_index).collect();
+        let indices: BTreeSet<u8> = chunks.map(|part| part.chunk_index).collect();
         let by = random.choose(&[1, 1, 1, 2, 20]);
         if indices.is_empty() || indices.iter().any(|index| index % 0x80 + by >= 0x80) {
             return;
         }
-        let first = random.choose(&indices);
+        let lowest = indices.len() == 1 || random.once_in(4);
+        let place = if lowest { 0 } else { 1 + random.below(indices.len() - 1) };
+        let first = *indices.iter().nth(place).expect("below the length");
         for part in self.parts.iter_mut().filter(|part| part.kind == CHUNK && part.chunk_index >= first) {
             part.chunk_index += by;
         }
     }
 
-    /// In one way. Chunks beyond those that the index counts come twice as often: erased before the others, they
-    /// would leave a sound version. So do chunk indices that alone are wrong.
+    /// In one way. Two come three times as often: chunks beyond those that the index counts, which, erased before the
+    /// others, would leave a sound version; and chunk indices that alone are wrong.
     fn spoil(&mut self, random: &mut Random) {
-        match random.below(10) {
+        match random.below(12) {
             0 => self.parts.retain(|part| part.kind == CHUNK),
             1 => self.parts.retain(|part| part.kind == BLOB_INDEX),
             2 => self.lose_a_chunk(random),
             3 => self.change_index(|data| data[4] = data[4].wrapping_add(random.choose(&[1, 2, 0xFF]))),
             4 => self.change_index(|data| data[random.below(4)] ^= 1 << random.below(8)),
             5 => self.change_index(|data| data[5] ^= 0x80),
-            6 | 7 => self.move_up(random),
+            6..=8 => self.move_up(random),
             _ => {
                 let start = self.start();
                 self.add_chunks(random, start);
