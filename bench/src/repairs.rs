@@ -154,6 +154,18 @@ fn both_starts(chunks: u8) -> Vec<u8> {
     image(pages, 0)
 }
 
+/// A blob of 125 empty chunks on each page; of the last one chunk stands twice, and another never.
+fn long_blobs() -> Vec<u8> {
+    let pages = filled(16, true, ENTRIES, |page, sequence| {
+        page.key += 1;
+        for number in 0..125 {
+            page.item(CHUNK, if sequence == 16 { number.max(1) } else { number }, sized(&[]), &[]);
+        }
+        page.item(INDEX, 0xFF, [0, 0, 0, 0, 125, 0, 0xFF, 0xFF], &[]);
+    });
+    image(pages, 0)
+}
+
 /// 2,016 chunks of as many keys without an index.
 fn lone_chunks() -> Vec<u8> {
     let pages = filled(16, true, 1, |page, _| {
@@ -215,6 +227,7 @@ pub fn worst() -> Vec<(&'static str, Vec<u8>)> {
         ("recovery: 672 blobs under newer numbers", covered()),
         ("recovery: 1,008 groups, two indices each", both_starts(0)),
         ("recovery: 504 groups, two blobs each", both_starts(1)),
+        ("recovery: 16 blobs of 125 chunks, one twice", long_blobs()),
         ("recovery: 2,016 chunks with no index", lone_chunks()),
         ("recovery: clean, 2,016 names of one slot", one_slot()),
         ("recovery: one unsound blob of 945, crowded", crowded()),

@@ -21,7 +21,8 @@ use Rattle.found.specs.Found.{Found, newer, isChunk, isIndex, isPart, startIn, 
 use Rattle.page.proofs.Tests.{either-second}
 use Rattle.found.proofs.Ranking.{start-le}
 use Rattle.lists.proofs.Keeping.{keep-within, sum-within}
-use Rattle.versions.specs.Versions.{indices, counting, sizeIn, sound, dropVersion, judgeWith, judge, versionIn, soundOne, bothSound, dropCounting, olderWith, older}
+use Rattle.lists.proofs.Passing.{allTo-ext}
+use Rattle.versions.specs.Versions.{indices, counting, chunkNumbered, exact, sizeIn, sound, dropVersion, judgeWith, judge, versionIn, soundOne, bothSound, dropCounting, olderWith, older}
 
 or-left : (a b : Bool) → a ≡ true → (a || b) ≡ true
 or-left a b e = rw e
@@ -68,11 +69,18 @@ module _ (fs : List Found) (q : Found → Bool) where
         go true f = absurd (true≢false (chunk-near x m f) e)
         go false f = f
 
+    exact-near : (c : ℕ) → exact v ys c ≡ exact v fs c
+    unfolding exact
+    exact-near c =
+        ap₂ (λ (a b : Bool). a && b)
+        (ap (eqb c) (sum-within (λ (x : Found). one (chunkOf v (x .raw))) q fs (λ y m e. rw (not-near y m e))))
+        (allTo-ext _ _ c (λ n h. ap (λ (k : ℕ). eqb k 1) (sum-within (λ (x : Found). one (chunkNumbered v n (x .raw))) q fs (λ y m e. rw (not-near y m e)))))
+
     sound-near : (i : Found) → sound v ys i ≡ sound v fs i
     unfolding sound sizeIn
     sound-near i =
-        ap₂ (λ (a b : ℕ). eqb (indexCount (i .raw)) a && eqb (indexSize (i .raw)) b)
-        (sum-within (λ (x : Found). one (chunkOf v (x .raw))) q fs (λ y m e. rw (not-near y m e)))
+        ap₂ (λ (a : Bool) (b : ℕ). a && eqb (indexSize (i .raw)) b)
+        (exact-near (indexCount (i .raw)))
         (sum-within (λ (x : Found). cond (chunkOf v (x .raw)) (chunkSize (x .raw)) 0) q fs (λ y m e. rw (not-near y m e)))
 
     drop-near : (i : Found) → dropVersion v i ys ≡ dropVersion v i fs

@@ -169,11 +169,11 @@ module _ (r : List ℕ) (kr : keyNumber (keyOf r) < 2 ^ 128) where
   unfolding groupOf
   group-key = digits-mod (namespaceOf r) kr
 
-  version-is : versionOf r ≡ versionIn (groupOf r) (startIn r)
+  pub version-is : versionOf r ≡ versionIn (groupOf r) (startIn r)
   unfolding versionOf
   version-is = rw (group-space, group-key)
 
-start-either : (r : List ℕ) → (startIn r ≡ 0) ⊎ (startIn r ≡ 0x80)
+pub start-either : (r : List ℕ) → (startIn r ≡ 0) ⊎ (startIn r ≡ 0x80)
 unfolding startIn
 start-either r = go (ltb (cond (isChunk r) (chunkIndexOf r) (indexStart r)) 0x80)
   where

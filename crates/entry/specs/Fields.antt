@@ -1,7 +1,7 @@
 -- Rule. Document 01, Sector layout: the fields of an entry, of which h are the 32 bytes, or of an item, which begins with them. Assumes nothing.
 use mathlib.Core.Bool.{cond}
 use mathlib.Core.List.{List, _++_}
-use Prim.Native.Nat.{ℕ, _+_, _*_, _^_}
+use Prim.Native.Nat.{ℕ, _+_, _*_, _%_, _^_}
 use lib.Dec.{ltb}
 use lib.ListN.{getD, take, drop}
 use Rattle.word.specs.Number.{part, le, be}
@@ -62,3 +62,7 @@ indexStart h = getD h 29 0
 -- Recovery, 3: "start 0 for a byte below 0x80, else 0x80; a chunk's chunk index is judged alike"
 abbrev pub startOf : ℕ → ℕ
 startOf b = cond (ltb b 0x80) 0 0x80
+
+-- document 02, No. 2: "start, start + 1 and so on": a chunk's number, counted from its version's start
+abbrev pub chunkNumber : List ℕ → ℕ
+chunkNumber h = chunkIndexOf h % 0x80

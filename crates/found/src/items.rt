@@ -5,11 +5,12 @@ use layout::ENTRY_BYTES;
 use layout::FIRST_PLACE;
 use layout::SECTOR_BYTES;
 use layout::SECTOR_PLACES;
+use layout::VERSION_CHUNKS;
 ghost use mathlib.Core.Path.{_≡_};
 ghost use mathlib.Core.Bool.{_||_};
 ghost use Prim.Native.Nat.{_+_, _%_, _≤_, _<_};
 ghost use lib.ListN.{length};
-ghost use Rattle.entry.specs.Fields.{namespaceOf, spanOf};
+ghost use Rattle.entry.specs.Fields.{chunkNumber, namespaceOf, spanOf};
 ghost use Rattle.flash.specs.Did.{Did};
 ghost use Rattle.item.specs.Erase.{erasing};
 ghost use Rattle.found.specs.Found.{newer, isChunk, isIndex, isPart, startIn, versionOf, groupOf};
@@ -64,6 +65,14 @@ pub fn start_at(image: &[u8], place: usize) -> u8
         return entry::start(image[place * ENTRY_BYTES + 3]);
     }
     entry::start(image[place * ENTRY_BYTES + 29])
+}
+
+// A chunk's number, counted from its version's start.
+pub fn number_at(image: &[u8], place: usize) -> usize
+    requires { ⌜ Placed (now image) place ⌝ }
+    ensures { λ r. ⌜ r ≡ chunkNumber (itemAt (now (image .entry)) place .raw) ⌝ }
+{
+    word::size(image[place * ENTRY_BYTES + 3]) % VERSION_CHUNKS
 }
 
 // The version that a chunk or a blob index is of.

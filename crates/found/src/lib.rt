@@ -13,6 +13,7 @@ pub use items::is_index;
 pub use items::is_newer;
 pub use items::is_part;
 pub use items::namespace_at;
+pub use items::number_at;
 pub use items::span_at;
 pub use items::start_at;
 pub use items::version_at;

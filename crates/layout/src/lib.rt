@@ -21,5 +21,8 @@ pub const SECTOR_PLACES: usize = 128;
 
 pub const FIRST_PLACE: usize = 2;
 
+// A blob's version has at most half of the chunk indices: those below 0x80, or those from it on.
+pub const VERSION_CHUNKS: usize = 128;
+
 // An image has at most as many items as entries.
 pub const MOST_ITEMS: usize = 2016;

@@ -6,6 +6,8 @@ pub mod Out
 pub mod Ascending
 pub mod Sorting
 pub mod Range
+pub mod Numbers
+pub mod Passing
 pub mod Each
 pub mod Parts
 pub mod Keeping

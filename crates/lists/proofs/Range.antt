@@ -101,3 +101,27 @@ sumTo-pair f n s t hs ht ne =
     let b = sumTo-ge (off s f) n t ht in
     let c : off s f t ≡ f t = rw (ne-eqb t s (λ e. ne (sym e))) in
     omega arith
+
+-- values of at most 1 that sum up to the limit are all 1
+sumTo-most : (f : ℕ → ℕ) (n : ℕ) → ((u : ℕ) → u < n → f u ≤ 1) → sumTo f n ≤ n
+unfolding sumTo
+sumTo-most f zero h = omega arith
+sumTo-most f (suc n) h = let a = sumTo-most f n (λ u k. h u (omega arith)) in let b = h n (omega arith) in omega arith
+
+pub sumTo-full : (f : ℕ → ℕ) (n : ℕ) → ((u : ℕ) → u < n → f u ≤ 1) → sumTo f n ≡ n → (u : ℕ) → u < n → f u ≡ 1
+unfolding sumTo
+sumTo-full f zero h e u k = absurd (omega arith)
+sumTo-full f (suc n) h e u k =
+    let a = sumTo-most f n (λ v j. h v (omega arith)) in
+    let b = h n (omega arith) in
+    go (eqb u n) refl (omega arith) (sumTo-full f n (λ v j. h v (omega arith)) (omega arith) u)
+  where
+    go : (c : Bool) → eqb u n ≡ c → f n ≡ 1 → (u < n → f u ≡ 1) → f u ≡ 1
+    go true q m ih = rw (eqb-true u n q) m
+    go false q m ih = let d : (u ≡ n → ⊥) = eqb-false u n q in ih (omega arith)
+
+-- values of at least 1 sum up to the limit or more
+pub sumTo-least : (f : ℕ → ℕ) (n : ℕ) → ((u : ℕ) → u < n → 1 ≤ f u) → n ≤ sumTo f n
+unfolding sumTo
+sumTo-least f zero h = omega arith
+sumTo-least f (suc n) h = let a = sumTo-least f n (λ u k. h u (omega arith)) in let b = h n (omega arith) in omega arith

@@ -72,6 +72,11 @@ unfoldable pub sumTo : (ℕ → ℕ) → ℕ → ℕ
 sumTo f zero = 0
 sumTo f (suc n) = sumTo f n + f n
 
+-- each number below n passes
+unfoldable pub allTo : (ℕ → Bool) → ℕ → Bool
+allTo p zero = true
+allTo p (suc n) = cond (p n) (allTo p n) false
+
 -- the least number of the list from v on
 abbrev pub lesser : ℕ → ℕ → Option ℕ → Option ℕ
 lesser v x none = cond (leb v x) (some x) none

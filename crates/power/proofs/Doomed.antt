@@ -12,13 +12,14 @@ use Rattle.entry.specs.States.{one}
 use Rattle.entry.specs.Fields.{indexCount, indexSize, spanOf}
 use Rattle.page.proofs.Tests.{both-first, both-is, both-second}
 use Rattle.flash.specs.Step.{Step}
-use Rattle.lists.specs.Lists.{ascending, best, better, keep, sumOf}
+use Rattle.lists.specs.Lists.{allTo, ascending, best, better, keep, sumOf}
 use Rattle.lists.proofs.Member.{_∈_, in-append, refuted, true≢false}
 use Rattle.lists.proofs.Search.{in-keep, keep-in}
 use Rattle.lists.proofs.Sums.{sum-append, sum-ext, sum-keep, sum-kept-one, sum-plus}
 use Rattle.lists.proofs.Maps.{flatMap-append, flatMap-ext, flatMap-none}
+use Rattle.lists.proofs.Passing.{allTo-ext}
 use Rattle.found.specs.Found.{Found, chunkOf, chunks, eraseAll, groupOf, indexOf, isChunk, isIndex, isPart, newer, versionOf}
-use Rattle.versions.specs.Versions.{counting, dropVersion, indices, judge, judgeWith, older, sizeIn, sound}
+use Rattle.versions.specs.Versions.{chunkNumbered, counting, dropVersion, exact, indices, judge, judgeWith, older, sizeIn, sound}
 use Rattle.blobs.specs.Blobs.{blobSteps}
 use Rattle.quick.specs.Calm.{inGroup, partOf, tot}
 use Rattle.quick.proofs.Idle.{older-idle}
@@ -26,12 +27,14 @@ use Rattle.quick.proofs.Counts.{length-keep}
 use Rattle.quick.proofs.Versions.{index-not-chunk, index-part}
 use Rattle.power.proofs.Calm.{Tidy, lone, not-both}
 
--- a version by sums over the items: one index, and its count and size are those of the chunks
+-- a version by sums over the items: one index, its chunks are exactly those that it counts, and its size is theirs
+unfoldable pub exactBy : ((List ℕ → ℕ) → ℕ) → ℕ → ℕ → Bool
+exactBy t v c = eqb c (t (λ (r : List ℕ). one (chunkOf v r))) && allTo (λ (n : ℕ). eqb (t (λ (r : List ℕ). one (chunkNumbered v n r))) 1) c
+
 unfoldable pub soundBy : ((List ℕ → ℕ) → ℕ) → ℕ → Bool
 soundBy t v =
     eqb (t (λ (r : List ℕ). one (indexOf v r))) 1
-    && (eqb (t (λ (r : List ℕ). cond (indexOf v r) (indexCount r) 0)) (t (λ (r : List ℕ). one (chunkOf v r)))
-    && eqb (t (λ (r : List ℕ). cond (indexOf v r) (indexSize r) 0)) (t (sizeIn v)))
+    && (exactBy t v (t (λ (r : List ℕ). cond (indexOf v r) (indexCount r) 0)) && eqb (t (λ (r : List ℕ). cond (indexOf v r) (indexSize r) 0)) (t (sizeIn v)))
 
 -- its index and its chunks are parts of a version
 part-index : (v : ℕ) (r : List ℕ) → indexOf v r ≡ true → partOf v r ≡ true
@@ -57,6 +60,13 @@ module _ (t u : (List ℕ → ℕ) → ℕ) (v : ℕ)
   no-index : (r : List ℕ) → partOf v r ≡ false → indexOf v r ≡ false
   no-index r q = refuted (indexOf v r) (λ e. true≢false (part-index v r e) q)
 
+  exactBy-same : (c : ℕ) → exactBy t v c ≡ exactBy u v c
+  unfolding exactBy
+  exactBy-same c =
+      ap₂ (λ (a b : Bool). a && b)
+      (ap (eqb c) (at (λ (r : List ℕ). one (chunkOf v r)) (λ r q. rw (no-chunk r q))))
+      (allTo-ext _ _ c (λ n h. ap (λ (k : ℕ). eqb k 1) (at (λ (r : List ℕ). one (chunkNumbered v n r)) (λ r q. rw (no-chunk r q)))))
+
   pub soundBy-same : soundBy t v ≡ soundBy u v
   unfolding soundBy sizeIn
   soundBy-same =
@@ -64,7 +74,7 @@ module _ (t u : (List ℕ → ℕ) → ℕ) (v : ℕ)
         at (λ (r : List ℕ). one (indexOf v r)) (λ r q. rw (no-index r q)),
         at (λ (r : List ℕ). cond (indexOf v r) (indexCount r) 0) (λ r q. rw (no-index r q)),
         at (λ (r : List ℕ). cond (indexOf v r) (indexSize r) 0) (λ r q. rw (no-index r q)),
-        at (λ (r : List ℕ). one (chunkOf v r)) (λ r q. rw (no-chunk r q)),
+        exactBy-same (u (λ (r : List ℕ). cond (indexOf v r) (indexCount r) 0)),
         at (sizeIn v) (λ r q. rw (no-chunk r q)),
       )
 
@@ -126,7 +136,7 @@ module _ (fs : List Found) where
   sound-none v e = rw (count-is v [] e)
 
   sound-one : (v : ℕ) (i : Found) → indices v fs ≡ i ∷ [] → soundIn fs v ≡ sound v fs i
-  unfolding soundBy sound
+  unfolding soundBy sound exact exactBy
   sound-one v i e =
       let a = sum-kept-one (λ (x : Found). indexOf v (x .raw)) (λ (x : Found). indexCount (x .raw)) fs i e in
       let b = sum-kept-one (λ (x : Found). indexOf v (x .raw)) (λ (x : Found). indexSize (x .raw)) fs i e in

@@ -36,6 +36,10 @@ pos-in p (x ∷ xs) h = go (p x) refl h (pos-in p xs)
     go true q k ih = (x, inl refl, q)
     go false q k ih = let r = ih (omega arith) in (r .0, inr (r .1), r .2)
 
+-- and a member that passes is counted
+pub in-pos : {A : Type 0} (p : A → Bool) (xs : List A) (x : A) → x ∈ xs → p x ≡ true → 1 ≤ sumOf (λ (y : A). one (p y)) xs
+in-pos p xs x m e = let g = sum-ge (λ (y : _). one (p y)) xs x m in let z = one-true (p x) e in omega arith
+
 -- what is kept is what is counted
 pub length-keep : {A : Type 0} (p : A → Bool) (xs : List A) → length (keep p xs) ≡ sumOf (λ (x : A). one (p x)) xs
 length-keep p xs = length-sum (keep p xs) ∙ sum-keep p (λ (x : _). 1) xs ∙ sym (sum-ext (λ (x : _). one (p x)) (λ (x : _). cond (p x) 1 0) xs (λ x m. one-cond (p x)))

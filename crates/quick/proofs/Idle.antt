@@ -5,7 +5,7 @@ use mathlib.Core.Option.{Option, none, some}
 use mathlib.Core.List.{List, [], _∷_, flatMap, map}
 use Prim.Native.Nat.{_+_, _-_, _/_, _≤_, suc, ℕ}
 use native.Mathlib.Omega.{arith}
-use lib.Dec.{eqb}
+use lib.Dec.{eqb, ltb}
 use borrow.Author.Tests.{eq-eqb}
 use Rattle.entry.specs.States.{one}
 use Rattle.entry.specs.Fields.{indexCount, indexSize, spanOf}
@@ -13,7 +13,7 @@ use Rattle.page.proofs.Tests.{both-first, both-is, both-second}
 use Rattle.item.specs.States.{statesDown, unmarking}
 use Rattle.item.specs.Erase.{erasing}
 use Rattle.lists.specs.Lists.{ascending, best, better, keep, sortBy}
-use Rattle.lists.proofs.Sums.{sum-ge, sum-kept-one}
+use Rattle.lists.proofs.Sums.{sum-kept-one}
 use Rattle.lists.proofs.Search.{best-in, keep-in}
 use Rattle.lists.proofs.Maps.{flatMap-none, map-in}
 use Rattle.lists.proofs.Sorting.{dropLast-short, length-sort}
@@ -21,10 +21,11 @@ use Rattle.lists.proofs.Ascending.{ascending-in}
 use Rattle.lists.proofs.Member.{_∈_, nil-left, nil≢, true≢false}
 use Rattle.found.specs.Found.{Found, eraseAll, groupOf, indexOf, isIndex, isPart, newer, versionOf}
 use Rattle.versions.specs.Versions.{bothSound, counting, indices, judge, judgeWith, older, olderWith, sound, soundOne, versionIn}
+use Rattle.versions.proofs.Exact.{numbers-exact}
 use Rattle.blobs.specs.Blobs.{blobSteps}
 use Rattle.duplicates.specs.Duplicates.{duplicateSteps, groups, members, olderThan, onceEach, outdated}
 use Rattle.quick.specs.Calm.{Calm, inGroup, partOf, tot}
-use Rattle.quick.proofs.Counts.{length-keep, length-one, one-true}
+use Rattle.quick.proofs.Counts.{in-pos, length-keep, length-one}
 
 -- the newest index of the two versions of group g
 abbrev pub newestOf : ℕ → List Found → Option Found
@@ -61,9 +62,7 @@ has-index fs v e = go (counting v fs) refl e
     go none q k = unfold soundOne in absurd (true≢false k refl)
     go (some i) q k =
         let m = keep-in (λ (x : Found). indexOf v (x .raw)) fs i (best-in newer (indices v fs) i (unfold counting in q)) in
-        let g = sum-ge (λ (x : Found). one (indexOf v (x .raw))) fs i (m .0) in
-        let z = one-true (indexOf v (i .raw)) (m .1) in
-        omega arith
+        in-pos (λ (x : Found). indexOf v (x .raw)) fs i (m .0) (m .1)
 
 pub older-idle : (fs : List Found) (g : ℕ) → tot (λ (r : List ℕ). one (indexOf (versionIn g 0) r)) fs + tot (λ (r : List ℕ). one (indexOf (versionIn g 0x80) r)) fs ≤ 1
     → older fs g ≡ []
@@ -93,15 +92,14 @@ module _ (fs : List Found) (single : (g : ℕ) → tot (λ (r : List ℕ). one (
 
 -- ---- from the sums to idleness
 module _ (fs : List Found) (C : Calm (λ (f : List ℕ → ℕ). tot f fs)) where
-  index-only : (v : ℕ) → 1 ≤ tot (λ (r : List ℕ). one (indexOf v r)) fs → (i : Found) × (indices v fs ≡ i ∷ [])
+  pub index-only : (v : ℕ) → 1 ≤ tot (λ (r : List ℕ). one (indexOf v r)) fs → (i : Found) × (indices v fs ≡ i ∷ [])
   index-only v h = let a = C .lone v in let b = length-keep (λ (x : Found). indexOf v (x .raw)) fs in length-one (indices v fs) (omega arith)
 
-  sound-is : (v : ℕ) (i : Found) → indices v fs ≡ i ∷ [] → 1 ≤ tot (λ (r : List ℕ). one (indexOf v r)) fs → sound v fs i ≡ true
+  pub sound-is : (v : ℕ) (i : Found) → indices v fs ≡ i ∷ [] → 1 ≤ tot (λ (r : List ℕ). one (indexOf v r)) fs → sound v fs i ≡ true
   unfolding sound
   sound-is v i e h =
-      let a = sum-kept-one (λ (x : Found). indexOf v (x .raw)) (λ (x : Found). indexCount (x .raw)) fs i e in
       let b = sum-kept-one (λ (x : Found). indexOf v (x .raw)) (λ (x : Found). indexSize (x .raw)) fs i e in
-      both-is _ _ (eq-eqb _ _ (sym a ∙ C .count v h)) (eq-eqb _ _ (sym b ∙ C .size v h))
+      both-is _ _ (numbers-exact v fs (indexCount (i .raw)) (λ n. C .each v h n ∙ sum-kept-one (λ (x : Found). indexOf v (x .raw)) (λ (x : Found). one (ltb n (indexCount (x .raw)))) fs i e)) (eq-eqb _ _ (sym b ∙ C .size v h))
 
   judge-idle : (v : ℕ) → 1 ≤ tot (λ (r : List ℕ). one (partOf v r)) fs → judge fs v ≡ []
   unfolding judge judgeWith counting best better
@@ -122,9 +120,7 @@ module _ (fs : List Found) (C : Calm (λ (f : List ℕ → ℕ). tot f fs)) wher
       one-version v m =
           let r = map-in (λ (x : Found). versionOf (x .raw)) (keep (λ (x : Found). isPart (x .raw)) fs) v m in
           let k = keep-in (λ (x : Found). isPart (x .raw)) fs (r .0) (r .1) in
-          let g = sum-ge (λ (x : Found). one (partOf v (x .raw))) fs (r .0) (k .0) in
-          let z = one-true (partOf v (r .0 .raw)) (both-is (isPart (r .0 .raw)) (eqb (versionOf (r .0 .raw)) v) (k .1) (eq-eqb _ v (sym (r .2)))) in
-          judge-idle v (omega arith)
+          judge-idle v (in-pos (λ (x : Found). partOf v (x .raw)) fs (r .0) (k .0) (both-is (isPart (r .0 .raw)) (eqb (versionOf (r .0 .raw)) v) (k .1) (eq-eqb _ v (sym (r .2)))))
 
   -- and stage 4 erases nothing
   pub duplicate-idle : duplicateSteps fs ≡ []

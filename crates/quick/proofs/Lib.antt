@@ -4,6 +4,11 @@ pub mod Idle
 pub mod Looking
 pub mod Filling
 pub mod Pages
-pub mod Numbers
 pub mod Naming
+pub mod Fitting
+pub mod Lone
 pub mod Calming
+pub mod Crowding
+pub mod Still
+pub mod Exactly
+pub mod Many

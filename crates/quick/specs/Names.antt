@@ -18,10 +18,6 @@ frontOf r = cond (isChunk r) (256 + namespaceOf r * 256 + chunkIndexOf r) (names
 unfoldable pub nameOf : List ℕ → ℕ
 nameOf r = frontOf r * 2 ^ 128 + keyNumber (keyOf r)
 
--- a chunk's number, counted from its version's start
-abbrev pub chunkNumber : List ℕ → ℕ
-chunkNumber r = chunkIndexOf r % 128
-
 -- the name of the chunk number n of version v, which is namespace, start and key: (namespace * 256 + start) * 2 ^ 128 + key
 abbrev pub chunkName : ℕ → ℕ → ℕ
 chunkName v n = (256 + n) * 2 ^ 128 + v

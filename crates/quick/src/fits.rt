@@ -1,22 +1,21 @@
 // What is tested of each part of a blob, by what the table leads to.
 use super::names::chunk_name;
-use super::names::number_at;
 use super::slots::find;
 use found::Rank;
 use layout::ENTRY_BYTES;
 ghost use mathlib.Core.Path.{_≡_};
-ghost use mathlib.Core.Bool.{true};
-ghost use Prim.Native.Nat.{ℕ, _≤_, _<_};
+ghost use mathlib.Core.Bool.{cond};
+ghost use Prim.Native.Nat.{_≤_, _<_};
 ghost use Rattle.found.specs.Places.{itemAt, Placed};
 ghost use Rattle.found.specs.Ranks.{rankNumber};
 ghost use Rattle.quick.specs.Names.{chunkName};
-ghost use Rattle.quick.specs.Slots.{told, EachSlot, Leads};
-ghost use Rattle.quick.specs.Fits.{ChunkFits, HasChunk, IndexFits, Fits};
+ghost use Rattle.quick.specs.Slots.{told, Leads};
+ghost use Rattle.quick.specs.Fits.{chunkFits, hasChunk, indexFits, partFits, allFit};
 
 // A chunk's namespace and key lead to an index of its version, which counts it.
 fn chunk_fits(image: &[u8], slots: &[u16], place: usize) -> bool
     requires { ⌜ Leads (now slots) (now image) × Placed (now image) place ⌝ }
-    ensures { λ r. ⌜ (r ≡ true → ChunkFits (now (slots .entry)) (now (image .entry)) (itemAt (now (image .entry)) place .raw)) ⌝ }
+    ensures { λ r. ⌜ r ≡ chunkFits (now (slots .entry)) (now (image .entry)) (itemAt (now (image .entry)) place .raw) ⌝ }
 {
     let index = find(image, slots, found::group_at(image, place));
     if index == 0 {
@@ -31,13 +30,13 @@ fn chunk_fits(image: &[u8], slots: &[u16], place: usize) -> bool
     ) {
         return false;
     }
-    number_at(image, place) < word::wide(entry::index_count(image, index * ENTRY_BYTES))
+    found::number_at(image, place) < word::size(entry::index_count(image, index * ENTRY_BYTES))
 }
 
 // The place of the chunk number `n` of version `v`; 0 where there is none.
 fn chunk_at(image: &[u8], slots: &[u16], v: Rank, n: u32) -> usize
     requires { ⌜ Leads (now slots) (now image) × (v .high < 65536) × (n < 256) ⌝ }
-    ensures { λ r. ⌜ (1 ≤ r → HasChunk (now (slots .entry)) (now (image .entry)) (rankNumber v) n × (r ≡ told (now (slots .entry)) (now (image .entry)) (chunkName (rankNumber v) n)) × Placed (now (image .entry)) r) ⌝ }
+    ensures { λ r. ⌜ (r ≡ cond (hasChunk (now (slots .entry)) (now (image .entry)) (rankNumber v) n) (told (now (slots .entry)) (now (image .entry)) (chunkName (rankNumber v) n)) 0) × (1 ≤ r → Placed (now (image .entry)) r) ⌝ }
 {
     let place = find(image, slots, chunk_name(v, n));
     if place == 0 {
@@ -53,7 +52,7 @@ fn chunk_at(image: &[u8], slots: &[u16], v: Rank, n: u32) -> usize
 // An index has each chunk that it counts, and their sizes sum up to its own.
 fn index_fits(image: &[u8], slots: &[u16], index: usize) -> bool
     requires { ⌜ Leads (now slots) (now image) × Placed (now image) index ⌝ }
-    ensures { λ r. ⌜ (r ≡ true → IndexFits (now (slots .entry)) (now (image .entry)) (itemAt (now (image .entry)) index .raw)) ⌝ }
+    ensures { λ r. ⌜ r ≡ indexFits (now (slots .entry)) (now (image .entry)) (itemAt (now (image .entry)) index .raw) ⌝ }
 {
     let v = found::version_at(image, index);
     let count = word::wide(entry::index_count(image, index * ENTRY_BYTES));
@@ -73,7 +72,7 @@ fn index_fits(image: &[u8], slots: &[u16], index: usize) -> bool
 // A part of a blob fits with the others.
 fn part_fits(image: &[u8], slots: &[u16], place: usize) -> bool
     requires { ⌜ Leads (now slots) (now image) × Placed (now image) place ⌝ }
-    ensures { λ r. ⌜ (r ≡ true → Fits (now (slots .entry)) (now (image .entry)) (itemAt (now (image .entry)) place .raw)) ⌝ }
+    ensures { λ r. ⌜ r ≡ partFits (now (slots .entry)) (now (image .entry)) (itemAt (now (image .entry)) place .raw) ⌝ }
 {
     if found::is_chunk(image, place) {
         return chunk_fits(image, slots, place);
@@ -87,7 +86,7 @@ fn part_fits(image: &[u8], slots: &[u16], place: usize) -> bool
 // Each item in the table fits: every part of a blob is judged, so it is there.
 pub fn all_fit(image: &[u8], slots: &[u16]) -> bool
     requires { ⌜ Leads (now slots) (now image) ⌝ }
-    ensures { λ r. ⌜ (r ≡ true → EachSlot (λ (p : ℕ). Fits (now (slots .entry)) (now (image .entry)) (itemAt (now (image .entry)) p .raw)) (now (slots .entry))) ⌝ }
+    ensures { λ r. ⌜ r ≡ allFit (now (slots .entry)) (now (image .entry)) ⌝ }
 {
     let mut i: usize = 0;
     while i < slots.len() {

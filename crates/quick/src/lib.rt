@@ -10,7 +10,7 @@ use layout::SECTOR_BYTES;
 use layout::SECTOR_PLACES;
 use table::Table;
 ghost use mathlib.Core.Path.{_≡_};
-ghost use mathlib.Core.Bool.{true};
+ghost use mathlib.Core.Bool.{true, false};
 ghost use mathlib.Core.List.{map};
 ghost use Prim.Native.Nat.{_≤_};
 ghost use lib.ListN.{length};
@@ -22,16 +22,16 @@ ghost use Rattle.lists.specs.Each.{Each};
 ghost use Rattle.records.specs.Notes.{Noted};
 ghost use Rattle.quick.specs.Calm.{Calm, tot};
 ghost use Rattle.quick.specs.Slots.{Leads};
-ghost use Rattle.quick.specs.Fits.{Named};
+ghost use Rattle.quick.specs.Fits.{Named, Stopped, Crowded};
 
 // The slots: some two for each item that an image can hold.
 pub const SLOTS: usize = 4096;
 
 // Fills the table page by page, so that a list of one page's places is enough, and notes what each walk counted. Says whether no two judged items have the
-// same name.
+// same name, and none is crowded out.
 fn fill_all(t: &CrcTable, image: &[u8], table: Table, slots: &mut [u16], notes: &mut [u16]) -> bool
     requires { ⌜ (now t ≡ crcTable) × Sized table × Each (Lies (now image)) (listed table) × (4096 ≤ length (now slots)) × Noted (now notes) (now image) ⌝ }
-    ensures { λ r. ⌜ (r ≡ true → Leads (now (slots .exit)) (now (image .entry)) × Named (now (slots .exit)) (now (image .entry)) (map placeOf (found (listed table) (now (image .entry))))) × Noted (now (notes .exit)) (now (image .entry)) ⌝ }
+    ensures { λ r. ⌜ (r ≡ true → Leads (now (slots .exit)) (now (image .entry)) × Named (now (slots .exit)) (now (image .entry)) (map placeOf (found (listed table) (now (image .entry))))) × (r ≡ false → Stopped (now (slots .exit)) (now (image .entry)) (map placeOf (found (listed table) (now (image .entry))))) × Noted (now (notes .exit)) (now (image .entry)) ⌝ }
 {
     slots::clear(slots);
     let count = table.count;
@@ -59,8 +59,8 @@ fn fill_all(t: &CrcTable, image: &[u8], table: Table, slots: &mut [u16], notes: 
     true
 }
 
-// True only where no step of the two stages is to be made; where it is false, the stages decide. `slots` is overwritten, and `notes` by what was counted of the
-// pages that were walked.
+// True only where no step of the two stages is to be made; where it is false, the stages decide. Of calm items it says no only where one is crowded out: 64
+// slots from that of its name on hold items of other names. `slots` is overwritten, and `notes` by what was counted of the pages that were walked.
 pub fn is_calm(
     t: &CrcTable,
     image: &[u8],
@@ -69,7 +69,7 @@ pub fn is_calm(
     notes: &mut [u16],
 ) -> bool
     requires { ⌜ (now t ≡ crcTable) × Sized table × Each (Lies (now image)) (listed table) × (4096 ≤ length (now slots)) × (16 ≤ length (now notes)) ⌝ }
-    ensures { λ r. ⌜ (r ≡ true → Calm (λ f. tot f (found (listed table) (now (image .entry))))) × Noted (now (notes .exit)) (now (image .entry)) ⌝ }
+    ensures { λ r. ⌜ (r ≡ true → Calm (λ f. tot f (found (listed table) (now (image .entry))))) × (r ≡ false → Calm (λ f. tot f (found (listed table) (now (image .entry)))) → Crowded (now (slots .exit)) (now (image .entry)) (map placeOf (found (listed table) (now (image .entry))))) × Noted (now (notes .exit)) (now (image .entry)) ⌝ }
 {
     slots::clear(notes);
     if fill_all(t, image, table, slots, notes) {

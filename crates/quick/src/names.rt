@@ -6,7 +6,7 @@ ghost use Prim.Native.Nat.{_<_};
 ghost use lib.Dec.{eqb};
 ghost use Rattle.found.specs.Places.{itemAt, Placed};
 ghost use Rattle.found.specs.Ranks.{rankNumber};
-ghost use Rattle.quick.specs.Names.{judged, frontOf, nameOf, chunkNumber, chunkName, slotOf};
+ghost use Rattle.quick.specs.Names.{judged, frontOf, nameOf, chunkName, slotOf};
 
 // As many as there are slots: a name's hash is a slot.
 const HASHES: u64 = 4096;
@@ -50,14 +50,6 @@ pub fn has_name(image: &[u8], place: usize, name: Rank) -> bool
     ensures { λ r. ⌜ r ≡ eqb (nameOf (itemAt (now (image .entry)) place .raw)) (rankNumber name) ⌝ }
 {
     found::rank_same(name_at(image, place), name)
-}
-
-// A chunk's number, counted from its version's start.
-pub fn number_at(image: &[u8], place: usize) -> u32
-    requires { ⌜ Placed (now image) place ⌝ }
-    ensures { λ r. ⌜ r ≡ chunkNumber (itemAt (now (image .entry)) place .raw) ⌝ }
-{
-    word::wide(image[place * ENTRY_BYTES + 3]) % 128
 }
 
 // The name of the chunk number `n` of version `v`.

@@ -6,14 +6,15 @@ use super::names::name_at;
 use super::names::slot_of;
 use found::Rank;
 ghost use mathlib.Core.Path.{_≡_};
-ghost use mathlib.Core.Bool.{true};
+ghost use mathlib.Core.Bool.{true, false};
+ghost use mathlib.Core.List.{List, _++_};
 ghost use Prim.Native.Nat.{ℕ, _≤_};
 ghost use lib.ListN.{getD};
 ghost use Rattle.found.specs.Places.{Placed};
 ghost use Rattle.lists.specs.Each.{Each};
 ghost use Rattle.found.specs.Ranks.{rankNumber};
 ghost use Rattle.quick.specs.Slots.{stopOf, told, Leads};
-ghost use Rattle.quick.specs.Fits.{Filled};
+ghost use Rattle.quick.specs.Fits.{Filled, Named, Stopped};
 
 // How many slots a name is looked for in: images whose names crowd one place stay cheap.
 const LOOKS: usize = 64;
@@ -67,10 +68,10 @@ pub fn find(image: &[u8], slots: &[u16], name: Rank) -> usize
     stop.place
 }
 
-// Puts each judged item into the table. Says whether none has a name that is there already: the table then leads from each one's name to it.
+// Puts each judged item into the table. Says whether none has a name that is there already, or finds no slot: the table then leads from each one's name to it.
 pub fn fill(image: &[u8], places: &[u16], slots: &mut [u16]) -> bool
     requires { ⌜ Each (Placed (now image)) (now places) × Leads (now slots) (now image) ⌝ }
-    ensures { λ r. ⌜ (r ≡ true → Filled (now (slots .entry)) (now (slots .exit)) (now (image .entry)) (now (places .entry))) ⌝ }
+    ensures { λ r. ⌜ (r ≡ true → Filled (now (slots .entry)) (now (slots .exit)) (now (image .entry)) (now (places .entry))) × (r ≡ false → (xs : List ℕ) → Named (now (slots .entry)) (now (image .entry)) xs → Stopped (now (slots .exit)) (now (image .entry)) (xs ++ now (places .entry))) ⌝ }
 {
     let mut i: usize = 0;
     while i < places.len() {

@@ -1,3 +1,6 @@
 pub mod Newer
 pub mod Totals
+pub mod Exact
+pub mod Counting
+pub mod Indices
 pub mod Older

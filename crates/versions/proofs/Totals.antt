@@ -1,28 +1,27 @@
--- Sums over the items at places, one place at a time from the end; what a chunk adds to its version's, and any other item. Assumes nothing.
-use mathlib.Core.Path.{_≡_, ap, _∙_}
+-- Sums over the items from a place on; what a chunk adds to its version's, and any other item. Assumes nothing.
+use mathlib.Core.Path.{_≡_, ap}
 use mathlib.Core.Bool.{true, false}
 use mathlib.Core.List.{List}
-use Prim.Native.Nat.{ℕ, _+_, _-_, _<_, _≤_}
+use Prim.Native.Nat.{ℕ, _≤_}
 use native.Mathlib.Omega.{arith}
-use lib.ListN.{length, getD, drop}
+use lib.ListN.{take, drop, take-append-drop}
 use Rattle.entry.specs.Fields.{chunkSize}
 use Rattle.lists.specs.Lists.{sumOf}
+use Rattle.lists.proofs.Maps.{sum-map}
+use Rattle.lists.proofs.Sums.{sum-append}
 use Rattle.found.specs.Found.{Found, chunkOf}
 use Rattle.found.specs.Places.{itemAt, itemsAt}
-use Rattle.found.proofs.Reading.{items-more, items-end}
 use Rattle.versions.specs.Versions.{sizeIn}
 
 module _ (f : Found → ℕ) (l ps : List ℕ) where
-  pub total-more : (i : ℕ) → 0 < i → i ≤ length ps
-      → sumOf f (itemsAt l (drop (i - 1) ps)) ≡ f (itemAt l (getD ps (i - 1) 0)) + sumOf f (itemsAt l (drop i ps))
-  unfolding sumOf
-  total-more i h k =
-      let e : i - 1 + 1 ≡ i = omega arith in
-      ap (sumOf f) (items-more l ps (i - 1) (omega arith)) ∙ ap (λ (n : ℕ). f (itemAt l (getD ps (i - 1) 0)) + sumOf f (itemsAt l (drop n ps))) e
-
-  pub total-end : sumOf f (itemsAt l (drop (length ps) ps)) ≡ 0
-  unfolding sumOf
-  total-end = ap (sumOf f) (items-end l ps (length ps) (omega arith))
+  -- what is summed from a place on is no more than all
+  pub total-part : (i : ℕ) → sumOf f (itemsAt l (drop i ps)) ≤ sumOf f (itemsAt l ps)
+  total-part i =
+      let a = sum-map f (itemAt l) (drop i ps) in
+      let b = sum-map f (itemAt l) ps in
+      let c = sum-append (λ (p : ℕ). f (itemAt l p)) (take i ps) (drop i ps) in
+      let d = ap (sumOf (λ (p : ℕ). f (itemAt l p))) (take-append-drop i ps) in
+      omega arith
 
 module _ (v : ℕ) (r : List ℕ) where
   pub size-chunk : chunkOf v r ≡ true → sizeIn v r ≡ chunkSize r

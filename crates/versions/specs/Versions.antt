@@ -1,14 +1,14 @@
--- Rule. Document 01, Recovery: "3. Blobs.": a version, and two of a group, judged by the items fs found as the stage begins. Assumes nothing.
+-- Rule. Document 01, Recovery: "3. Blobs.", and document 02, No. 2: a version, and two of a group, judged by the items fs found as the stage begins. Assumes nothing.
 use mathlib.Core.Bool.{Bool, false, cond, _&&_, _||_}
 use mathlib.Core.Option.{Option, none, some}
 use mathlib.Core.List.{List, [], _++_}
 use Prim.Native.Nat.{ℕ, _+_, _*_, _/_, _%_, _^_}
 use lib.Dec.{eqb}
 use Rattle.entry.specs.States.{one}
-use Rattle.entry.specs.Fields.{chunkSize, indexSize, indexCount}
+use Rattle.entry.specs.Fields.{chunkNumber, chunkSize, indexSize, indexCount}
 use Rattle.flash.specs.Step.{Step}
 use Rattle.item.specs.Erase.{erasing}
-use Rattle.lists.specs.Lists.{keep, sumOf, best}
+use Rattle.lists.specs.Lists.{keep, sumOf, allTo, best}
 use Rattle.found.specs.Found.{Found, newer, versionOf, indexOf, chunkOf, chunks, eraseAll}
 
 -- "Of several indices of a version the newest counts."
@@ -18,20 +18,28 @@ indices v fs = keep (λ (x : Found). indexOf v (x .raw)) fs
 unfoldable pub counting : ℕ → List Found → Option Found
 counting v fs = best newer (indices v fs)
 
--- a version is sound where neither is "Chunk count or summed chunk sizes unlike the index"
+-- Document 02, No. 2: "its chunk indices are exactly start, start + 1 and so on up to the count, each once": each number below the count c is that of one
+-- chunk, and there are no more chunks (so none has another number: proofs/Exact, `exact-numbers` and, the other way, `numbers-exact`)
+abbrev pub chunkNumbered : ℕ → ℕ → List ℕ → Bool
+chunkNumbered v n r = chunkOf v r && eqb (chunkNumber r) n
+
+unfoldable pub exact : ℕ → List Found → ℕ → Bool
+exact v fs c =
+    eqb c (sumOf (λ (x : Found). one (chunkOf v (x .raw))) fs)
+    && allTo (λ (n : ℕ). eqb (sumOf (λ (x : Found). one (chunkNumbered v n (x .raw))) fs) 1) c
+
+-- "a version is sound only if its chunk indices are exactly [these], besides the size sum"
 unfoldable pub sizeIn : ℕ → List ℕ → ℕ
 sizeIn v r = cond (chunkOf v r) (chunkSize r) 0
 
 unfoldable pub sound : ℕ → List Found → Found → Bool
-sound v fs i =
-    eqb (indexCount (i .raw)) (sumOf (λ (x : Found). one (chunkOf v (x .raw))) fs)
-    && eqb (indexSize (i .raw)) (sumOf (λ (x : Found). sizeIn v (x .raw)) fs)
+sound v fs i = exact v fs (indexCount (i .raw)) && eqb (indexSize (i .raw)) (sumOf (λ (x : Found). sizeIn v (x .raw)) fs)
 
 -- "the index entry (one entry) is erased, then its chunks"
 unfoldable pub dropVersion : ℕ → Found → List Found → List Step
 dropVersion v i fs = erasing (i .sector) (i .entry) 1 ++ eraseAll (chunks v fs)
 
--- "No index: its chunks are erased. Chunk count or summed chunk sizes unlike the index: the index entry .., then its chunks."
+-- "No index: its chunks are erased."; one that is not sound: "the index entry .., then its chunks."
 unfoldable pub judgeWith : ℕ → List Found → Option Found → List Step
 judgeWith v fs none = eraseAll (chunks v fs)
 judgeWith v fs (some i) = cond (sound v fs i) [] (dropVersion v i fs)

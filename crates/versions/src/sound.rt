@@ -1,25 +1,18 @@
 // A version: the index that counts, and whether its chunks are as the index says.
 use found::Rank;
 use layout::ENTRY_BYTES;
+use layout::VERSION_CHUNKS;
 ghost use mathlib.Core.Path.{_≡_};
-ghost use Rattle.entry.specs.States.{one};
-ghost use Rattle.lists.specs.Lists.{sumOf};
-ghost use Rattle.found.specs.Found.{Found, chunkOf};
 ghost use Rattle.found.specs.Places.{itemAt, itemsAt, Placed};
 ghost use Rattle.lists.specs.Each.{Each};
 ghost use Rattle.found.specs.Ranks.{rankNumber};
-ghost use Rattle.versions.specs.Versions.{sizeIn, sound};
+ghost use Rattle.versions.specs.Versions.{sound};
 ghost use Rattle.versions.specs.Search.{Gathered, newestOf, PlacedAt, indexOfEither, newestIndex, newestWith, soundIndex};
 
 // The place of the newest index so far.
 pub enum Newest {
     At(usize),
     Nothing,
-}
-
-pub struct Sums {
-    pub count: u64,
-    pub size: u64,
 }
 
 // Whether an index of one of two versions stands there.
@@ -69,12 +62,15 @@ pub fn newest_of(image: &[u8], places: &[u16], v: Rank, w: Rank) -> Newest
     best
 }
 
-// How many chunks the version has, and their sizes summed: in 64 bits, so that sums do not wrap.
-fn chunk_sums(image: &[u8], places: &[u16], v: Rank) -> Sums
-    requires { ⌜ Gathered (now image) (now places) ⌝ }
-    ensures { λ r. ⌜ (r .count ≡ sumOf (λ (x : Found). one (chunkOf (rankNumber v) (x .raw))) (itemsAt (now (image .entry)) (now (places .entry)))) × (r .size ≡ sumOf (λ (x : Found). sizeIn (rankNumber v) (x .raw)) (itemsAt (now (image .entry)) (now (places .entry)))) ⌝ }
+// Whether the version's chunks are numbered from 0 up to the count of the index at `index`, each once, and are as large as it says: no more chunks than are
+// counted, each of a new number below the count, leave no number out. The sizes are summed in 64 bits, so that the sum does not wrap.
+pub fn is_sound(image: &[u8], places: &[u16], v: Rank, index: usize) -> bool
+    requires { ⌜ Gathered (now image) (now places) × Placed (now image) index ⌝ }
+    ensures { λ r. ⌜ r ≡ sound (rankNumber v) (itemsAt (now (image .entry)) (now (places .entry))) (itemAt (now (image .entry)) index) ⌝ }
 {
-    let mut count: u64 = 0;
+    let count = word::size(entry::index_count(image, index * ENTRY_BYTES));
+    let mut seen = [false; VERSION_CHUNKS];
+    let mut chunks: usize = 0;
     let mut size: u64 = 0;
     let mut i = places.len();
     while 0 < i {
@@ -83,22 +79,19 @@ fn chunk_sums(image: &[u8], places: &[u16], v: Rank) -> Sums
         if !found::is_chunk_of(image, place, v) {
             continue;
         }
-        count += 1;
+        let n = found::number_at(image, place);
+        if count <= n {
+            return false;
+        }
+        if seen[n] {
+            return false;
+        }
+        seen[n] = true;
+        chunks += 1;
         size += entry::chunk_size(image, place * ENTRY_BYTES) as u64;
     }
-    Sums { count, size }
-}
-
-// Whether count and size are as the index at `index` says.
-pub fn is_sound(image: &[u8], places: &[u16], v: Rank, index: usize) -> bool
-    requires { ⌜ Gathered (now image) (now places) × Placed (now image) index ⌝ }
-    ensures { λ r. ⌜ r ≡ sound (rankNumber v) (itemsAt (now (image .entry)) (now (places .entry))) (itemAt (now (image .entry)) index) ⌝ }
-{
-    let sums = chunk_sums(image, places, v);
-    let count = entry::index_count(image, index * ENTRY_BYTES) as u64;
-    let size = entry::index_size(image, index * ENTRY_BYTES) as u64;
-    if count == sums.count {
-        size == sums.size
+    if chunks == count {
+        entry::index_size(image, index * ENTRY_BYTES) as u64 == size
     } else {
         false
     }

@@ -6,7 +6,7 @@ use native.Mathlib.Omega.{arith}
 use lib.ListN.{length-take, length-drop, length-set, length, take, drop, getD, set}
 use lib.Seq.{length-take-le}
 use borrow.Author.Needs.{needs}
-use borrow.Author.Tests.{not-false}
+use borrow.Author.Tests.{not-false, not-true}
 use Rattle.page.specs.declared.state.PageState.the-variants.{Blank}
 use Rattle.flash.specs.Step.{sector}
 use Rattle.page.specs.Walk.{Laid, walk}
@@ -23,7 +23,7 @@ use Rattle.found.specs.Found.{found}
 use Rattle.lists.proofs.Each.{each-front}
 use Rattle.quick.specs.Slots.{Leads}
 use Rattle.quick.proofs.Filling.{none-leads, none-named}
-use Rattle.quick.proofs.Pages.{page-filled, page-placed, placesOn, SoFar}
+use Rattle.quick.proofs.Pages.{page-filled, page-placed, page-stopped, placesOn, SoFar}
 use Rattle.quick.proofs.fill_all.Statement.{statement}
 use Rattle.quick.proofs.fill_all.Tie as tie
 
@@ -116,7 +116,17 @@ fill-requires c κs =
     (rw (stored q .0) (page-placed (a .image .now) (getD (a .t3 .pages) (at-loop .loop .i) noPage) (lies (q .before .before .before .before))), at-loop .loop .inv .3)
 
 returns : tie.Need-returns Inv-loop μ-loop
-returns c = (λ e. absurd (true≢false e refl), noted (c .before .before .before .before .before .before .before .before))
+returns c =
+    let q = c .before .before .before .before .before .before .before .before in
+    let at-loop = q .before .before .before .before .before .before in
+    let l = at-loop .loop in
+    let a = at-loop .before .before .before .before .before .before .before .before in
+    let table = a .args .t3 in
+    let image = a .args .image .now in
+    let p = getD (table .pages) (l .i) noPage in
+    let stops = rw (stored q .0) at (c .before .before .before .fill .ensures .1 (not-true _ (c .if1 .taken))) in
+    let rest = element (table .pages) (table .count) (a .pre .1 .list) (l .i) noPage (omega arith) in
+    (λ e. absurd (true≢false e refl), λ e. page-stopped image p (l .slots) _ (drop (l .i + 1) (listed table)) (map placeOf (found (listed table) image)) stops (rw rest at (l .inv .4)), noted q)
 
 loop-again : tie.Need-loop-again Inv-loop μ-loop
 loop-again c =
@@ -127,7 +137,7 @@ loop-again c =
     let table = a .args .t3 in
     let image = a .args .image .now in
     let p = getD (table .pages) (l .i) noPage in
-    let filled = rw (stored q .0) at (c .before .before .before .fill .ensures (not-false _ (c .if1 .left))) in
+    let filled = rw (stored q .0) at (c .before .before .before .fill .ensures .0 (not-false _ (c .if1 .left))) in
     let rest = element (table .pages) (table .count) (a .pre .1 .list) (l .i) noPage (omega arith) in
     (omega arith, search needs, search needs, filled .leads, page-filled image p (l .slots) _ (drop (l .i + 1) (listed table)) (map placeOf (found (listed table) image)) filled (rw rest at (l .inv .4)), simp length-set (l .inv .5), noted q)
 
@@ -140,7 +150,7 @@ returns-2 c =
     let table = a .args .t3 in
     let end = listed-end (table .pages) (table .count) (a .pre .1 .list) (l .i) (c .loop-test .left) in
     let s = rw end at (l .inv .4) in
-    (λ e. (l .inv .3, rw (sym (s .2) ∙ append-nil (s .0)) (s .1)), l .inv .6)
+    (λ e. (l .inv .3, rw (sym (s .2) ∙ append-nil (s .0)) (s .1)), λ e. absurd (true≢false refl e), l .inv .6)
 
 pub fill-all-spec : {M : Type 1} → statement M
 fill-all-spec =

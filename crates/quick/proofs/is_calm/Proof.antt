@@ -1,7 +1,7 @@
--- `quick::is_calm` meets its contract: what was filled and tested makes the items calm. Assumes nothing.
-use mathlib.Core.Path.{refl}
+-- `quick::is_calm` meets its contract: what was filled and tested makes the items calm, and calm items pass but where one is crowded out. Assumes nothing.
+use mathlib.Core.Path.{refl, sym, ap, _∙_}
 use Prim.Native.Nat.{ℕ, _<_}
-use mathlib.Core.List.{map}
+use mathlib.Core.List.{List, map}
 use native.Mathlib.Omega.{arith}
 use lib.ListN.{getD}
 use borrow.Author.Needs.{needs}
@@ -9,11 +9,24 @@ use Rattle.lists.proofs.Member.{true≢false}
 use Rattle.records.proofs.Noting.{none-noted}
 use Rattle.table.specs.Table.{listed}
 use Rattle.found.specs.Found.{found}
-use Rattle.found.specs.Places.{placeOf}
+use Rattle.found.specs.Places.{Lies, placeOf}
+use Rattle.lists.specs.Each.{Each}
+use Rattle.table.specs.declared.Page.{Page}
 use Rattle.found.proofs.Finding.{items-found}
-use Rattle.quick.proofs.Calming.{calm-items}
+use Rattle.quick.specs.Calm.{Calm, tot}
+use Rattle.quick.proofs.Idle.{calm-same}
+use Rattle.quick.proofs.Calming.{calm-items, small-items, tot-at, totAt}
+use Rattle.quick.proofs.Crowding.{crowded, passes}
 use Rattle.quick.proofs.is_calm.Statement.{statement}
 use Rattle.quick.proofs.is_calm.Tie as tie
+
+-- the places of the items, and calm items by their places
+abbrev places : List ℕ → List Page → List ℕ
+places l pages = map placeOf (found pages l)
+
+calm-places : (l : List ℕ) (pages : List Page) → Each (Lies l) pages → Calm (λ (f : List ℕ → ℕ). tot f (found pages l)) → Calm (totAt l (places l pages))
+calm-places l pages lies C =
+    calm-same (totAt l (places l pages)) (λ (f : List ℕ → ℕ). tot f (found pages l)) (λ f. sym (tot-at l (places l pages) f) ∙ ap (tot f) (items-found l pages lies)) C
 
 -- nothing is noted once the notes are cleared
 fill-all-requires : tie.Need-fill-all-requires
@@ -34,11 +47,21 @@ returns c =
     let image = a .args .image .now in
     let pages = listed (a .args .table) in
     let small : (j : ℕ) → getD image j 0 < 256 = λ j. omega (arith, at-clear .before .before .before .before .shared-slice-known .given j) in
-    let filled = f .fill-all .ensures in
-    (λ e. rw (items-found image pages (a .pre .2)) at (calm-items _ image (map placeOf (found pages image)) small (filled .0 (c .before .before .if1 .taken) .1) (c .all-fit .ensures e)), filled .1)
+    let named = f .fill-all .ensures .0 (c .before .before .if1 .taken) .1 in (
+      λ e. rw (items-found image pages (a .pre .2)) at (calm-items _ image (places image pages) small named (sym (c .all-fit .ensures) ∙ e)),
+      λ e C. absurd (true≢false (passes _ image (places image pages) (small-items image small) named (calm-places image pages (a .pre .2) C)) (sym (c .all-fit .ensures) ∙ e)),
+      f .fill-all .ensures .2,
+    )
 
 returns-2 : tie.Need-returns-2
-returns-2 c = (λ e. absurd (true≢false e refl), c .before .before .before .before .before .fill-all .ensures .1)
+returns-2 c =
+    let f = c .before .before .before .before .before in
+    let at-clear = f .before .before .before .before .before in
+    let a = at-clear .before .before .before .before .before in
+    let image = a .args .image .now in
+    let pages = listed (a .args .table) in
+    let small : (j : ℕ) → getD image j 0 < 256 = λ j. omega (arith, at-clear .before .before .before .before .shared-slice-known .given j) in
+    (λ e. absurd (true≢false e refl), λ e C. crowded _ image (places image pages) (small-items image small) (calm-places image pages (a .pre .2) C) (f .fill-all .ensures .1 (c .if1 .left)), f .fill-all .ensures .2)
 
 pub is-calm-spec : {M : Type 1} → statement M
 is-calm-spec =

@@ -14,7 +14,7 @@ returns c =
     let a = at-is-calm .before .before .before .before .before .before .before .args in
     let tested = at-is-calm .is-calm .ensures in
     let made = at-close-full .close-full .ensures in
-    (rw (calm-last (listed (a .table)) (a .image .now) (tested .0 (at-if1 .if1 .taken))) made, marks-counted (listed (a .table)) (tested .1) made)
+    (rw (calm-last (listed (a .table)) (a .image .now) (tested .0 (at-if1 .if1 .taken))) made, marks-counted (listed (a .table)) (tested .2) made)
 
 returns-2 : tie.Need-returns-2
 returns-2 c =

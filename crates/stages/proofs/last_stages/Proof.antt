@@ -24,7 +24,7 @@ returns-2 c =
     let a = at-is-calm .before .before .before .before .before .before .before .before .args in
     let tested = at-is-calm .is-calm .ensures in
     let made = at-close-full .close-full .ensures in
-    (rw (calm-stages (listed (a .table)) (a .image .now) (tested .0 (at-if2 .if2 .taken))) made, marks-counted (listed (a .table)) (tested .1) made)
+    (rw (calm-stages (listed (a .table)) (a .image .now) (tested .0 (at-if2 .if2 .taken))) made, marks-counted (listed (a .table)) (tested .2) made)
 
 pub last-stages-spec : {M : Type 1} → statement M
 last-stages-spec =

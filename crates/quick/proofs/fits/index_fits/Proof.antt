@@ -1,27 +1,30 @@
--- `quick::index_fits` meets its contract: each chunk passed is there, and their sizes are summed. Assumes nothing.
+-- `quick::index_fits` meets its contract: each chunk passed is there, and their sizes are summed; it answers no at the first that is not. Assumes nothing.
 use mathlib.Core.Path.{refl, ap₂, _≡_, sym, ap, _∙_}
-use Prim.Native.Nat.{ℕ, _+_, _*_, _-_, _<_, _≤_}
+use mathlib.Core.Bool.{Bool, cond, false, true}
+use mathlib.Core.List.{List}
+use Prim.Native.Nat.{ℕ, _+_, _*_, _-_, _≤_}
 use native.Mathlib.Numerals.{add-one}
 use native.Mathlib.Omega.{arith}
-use borrow.Author.Count.{below-more}
-use borrow.Author.Tests.{eqb-true}
+use borrow.Author.Tests.{leb-true}
 use borrow.Author.Needs.{needs}
 use Rattle.entry.specs.Fields.{chunkSize, indexCount, indexSize}
-use Rattle.lists.specs.Lists.{sumTo}
-use Rattle.lists.proofs.Member.{true≢false}
+use Rattle.lists.specs.Lists.{allTo, sumTo}
+use Rattle.page.proofs.Tests.{both-first}
+use Rattle.lists.proofs.Member.{refuted, true≢false}
+use Rattle.lists.proofs.Passing.{all-at}
 use Rattle.found.specs.Found.{versionOf}
 use Rattle.found.specs.Places.{itemAt, Placed}
 use Rattle.found.specs.Ranks.{rankNumber}
 use Rattle.found.proofs.Reading.{byte-here, le-at}
 use Rattle.quick.specs.Names.{chunkName}
-use Rattle.quick.specs.Slots.{rawAt}
-use Rattle.quick.specs.Fits.{HasChunk, toldRaw}
+use Rattle.quick.specs.Slots.{rawAt, told}
+use Rattle.quick.specs.Fits.{hasChunk, indexFits, toldRaw}
 use Rattle.quick.proofs.fits.index_fits.Statement.{statement}
 use Rattle.quick.proofs.fits.index_fits.Tie as tie
 
 abbrev Inv-loop : tie.InvT-loop
 Inv-loop image slots index v count size₀ n₀ size n =
-    (n ≤ count) × (size ≤ 65536 * n) × ((j : ℕ) → j < n → HasChunk slots image (rankNumber v) j)
+    (n ≤ count) × (size ≤ 65536 * n) × (allTo (hasChunk slots image (rankNumber v)) n ≡ true)
     × (sumTo (λ j. chunkSize (toldRaw slots image (chunkName (rankNumber v) j))) n ≡ size)
 
 abbrev μ-loop : tie.MeasureT-loop
@@ -31,7 +34,24 @@ abbrev μ-loop : tie.MeasureT-loop
 there : (c : tie.Else1 Inv-loop μ-loop) →
     let entered = c .before .before .before .before .before .before .before .before .before in
     Placed (entered .args .image .now) (c .before .chunk-at .result)
-there c = c .before .chunk-at .ensures (omega (arith, c .if1 .left)) .2
+there c = c .before .chunk-at .ensures .1 (omega (arith, c .if1 .left))
+
+-- what chunk_at answers tells whether the chunk is there
+module _ (t l : List ℕ) (v n p : ℕ) (e : p ≡ cond (hasChunk t l v n) (told t l (chunkName v n)) 0) where
+  chunk-none : p ≡ 0 → hasChunk t l v n ≡ false
+  unfolding hasChunk
+  chunk-none z = go (hasChunk t l v n) refl e
+    where
+      go : (b : Bool) → hasChunk t l v n ≡ b → p ≡ cond b (told t l (chunkName v n)) 0 → b ≡ false
+      go true q f = absurd (omega (arith, leb-true 1 (told t l (chunkName v n)) (both-first _ _ q)))
+      go false q f = refl
+
+  chunk-some : 1 ≤ p → (hasChunk t l v n ≡ true) × (p ≡ told t l (chunkName v n))
+  chunk-some h = go (hasChunk t l v n) refl e
+    where
+      go : (b : Bool) → hasChunk t l v n ≡ b → p ≡ cond b (told t l (chunkName v n)) 0 → (b ≡ true) × (p ≡ told t l (chunkName v n))
+      go true q f = (refl, f)
+      go false q f = absurd (omega arith)
 
 mul-index-count : tie.Need-mul-index-count Inv-loop μ-loop
 mul-index-count c = let p = c .before .before .before .pre in omega (arith, p .1 .room)
@@ -40,8 +60,8 @@ index-count-requires : tie.Need-index-count-requires Inv-loop μ-loop
 index-count-requires c κs = let p = c .before .before .before .pre in omega (arith, p .1 .room)
 
 loop-holds : tie.Need-loop-holds Inv-loop μ-loop
-unfolding sumTo
-loop-holds c = (omega arith, omega arith, λ j h. absurd (omega arith), refl)
+unfolding sumTo allTo
+loop-holds c = (omega arith, omega arith, refl, refl)
 
 chunk-at-requires : tie.Need-chunk-at-requires Inv-loop μ-loop
 chunk-at-requires c κs =
@@ -51,7 +71,20 @@ chunk-at-requires c κs =
     (p .0, at-version-at .version-at .ensures .1, omega (arith, c .before .before .wide .ensures .1))
 
 returns : tie.Need-returns Inv-loop μ-loop
-returns c = λ e. absurd (true≢false e refl)
+unfolding indexFits
+returns c =
+    let f = c .before in
+    let l = f .before .before in
+    let w = l .before in
+    let v = w .before .before in
+    let a = v .before .before .before in
+    let image = a .args .image .now in
+    let t = a .args .slots .now in
+    let i = a .args .index in
+    let r = itemAt image i .raw in
+    let count : w .wide .result ≡ indexCount r = w .wide .ensures .0 ∙ w .before .index-count .ensures ∙ sym (byte-here image i (a .pre .1) 28 (omega arith)) in
+    let no = rw (v .version-at .ensures .0) at (chunk-none t image (rankNumber (v .version-at .result)) (l .loop .n) (f .chunk-at .result) (f .chunk-at .ensures .0) (c .if1 .taken)) in
+    rw (refuted (allTo (hasChunk t image (versionOf r)) (indexCount r)) (λ e. true≢false (all-at (hasChunk t image (versionOf r)) (indexCount r) e (l .loop .n) (omega (arith, f .before .loop-test .taken))) no))
 
 mul-chunk-size : tie.Need-mul-chunk-size Inv-loop μ-loop
 mul-chunk-size c = let h = there c in omega (arith, h .room)
@@ -65,7 +98,7 @@ add-size c =
     omega (arith, l .loop .inv .1, l .before .wide .ensures .1, c .before .before .before .loop-test .taken, c .chunk-size .ensures .1)
 
 loop-again : tie.Need-loop-again Inv-loop μ-loop
-unfolding sumTo
+unfolding allTo sumTo
 loop-again c =
     let f = c .before .before in
     let l = f .before .before in
@@ -73,12 +106,12 @@ loop-again c =
     let image = a .image .now in
     let v = rankNumber (l .before .before .before .version-at .result) in
     let some : 1 ≤ f .chunk-at .result = omega (arith, c .before .if1 .left) in
-    let got = f .chunk-at .ensures some in
+    let got = chunk-some (a .slots .now) image v (l .loop .n) (f .chunk-at .result) (f .chunk-at .ensures .0) some in
     let size : c .chunk-size .result ≡ chunkSize (toldRaw (a .slots .now) image (chunkName v (l .loop .n))) =
     c .chunk-size .ensures .0 ∙ sym (le-at image (f .chunk-at .result) (there (c .before)) 24 2 (omega arith)) ∙ ap (λ (q : ℕ). chunkSize (rawAt image q)) (got .1) in (
       omega (arith, f .before .loop-test .taken),
       omega (arith, l .loop .inv .1, c .chunk-size .ensures .1),
-      below-more (HasChunk (a .slots .now) image v) (l .loop .n) (l .loop .inv .2) (got .0),
+      rw (add-one, got .0) (l .loop .inv .2),
       rw add-one (ap₂ (λ (x y : ℕ). x + y) (l .loop .inv .3) (sym size)),
     )
 
@@ -93,6 +126,7 @@ index-size-requires c κs =
     let p = entered .pre in omega (arith, p .1 .room)
 
 returns-2 : tie.Need-returns-2 Inv-loop μ-loop
+unfolding indexFits
 returns-2 c =
     let l = c .before .before in
     let w = l .before in
@@ -105,12 +139,9 @@ returns-2 c =
     let count : w .wide .result ≡ indexCount r = w .wide .ensures .0 ∙ w .before .index-count .ensures ∙ sym (byte-here image i (a .pre .1) 28 (omega arith)) in
     let end : l .loop .n ≡ indexCount r = omega (arith, l .loop .inv .0, c .before .loop-test .left) in
     let size : c .index-size .result ≡ indexSize r = c .index-size .ensures ∙ sym (le-at image i (a .pre .1) 24 4 (omega arith)) in
-    λ e.
-    record {
-      each = λ j h. rw version at (l .loop .inv .2 j (omega arith));
-      size = sym (ap₂ (λ (x m : ℕ). sumTo (λ j. chunkSize (toldRaw (a .args .slots .now) image (chunkName x j))) m) version end)
-          ∙ l .loop .inv .3 ∙ eqb-true (l .loop .size) (c .index-size .result) e ∙ size;
-    }
+    let sum = sym (l .loop .inv .3) ∙ ap₂ (λ (x m : ℕ). sumTo (λ j. chunkSize (toldRaw (a .args .slots .now) image (chunkName x j))) m) version end in
+    let all = sym (ap₂ (λ (x m : ℕ). allTo (hasChunk (a .args .slots .now) image x) m) version end) ∙ l .loop .inv .2 in
+    rw (all, ← sum, size)
 
 pub index-fits-spec : {M : Type 1} → statement M
 index-fits-spec =

@@ -1,28 +1,25 @@
 -- `quick::part_fits` meets its contract: an item is a chunk, an index or neither. Assumes nothing.
 use mathlib.Core.Path.{sym, _∙_}
 use borrow.Author.Needs.{needs}
-use Rattle.lists.proofs.Member.{true≢false}
-use Rattle.found.specs.Places.{itemAt}
-use Rattle.quick.proofs.Versions.{index-not-chunk}
+use Rattle.quick.specs.Fits.{partFits}
 use Rattle.quick.proofs.fits.part_fits.Statement.{statement}
 use Rattle.quick.proofs.fits.part_fits.Tie as tie
 
 returns : tie.Need-returns
-returns c =
-    let a = c .before .before .before .before .before .args in
-    let is = sym (c .before .before .is-chunk .ensures) ∙ c .before .if1 .taken in
-    λ e. record { chunk = λ q. c .chunk-fits .ensures e; index = λ q. absurd (true≢false is (index-not-chunk (itemAt (a .image .now) (a .place) .raw) q)) }
+unfolding partFits
+returns c = rw (sym (c .before .before .is-chunk .ensures) ∙ c .before .if1 .taken) (c .chunk-fits .ensures)
 
 returns-2 : tie.Need-returns-2
+unfolding partFits
 returns-2 c =
-    let not = sym (c .before .before .before .before .is-chunk .ensures) ∙ c .before .before .before .if1 .left in
-    λ e. record { chunk = λ q. absurd (true≢false q not); index = λ q. c .index-fits .ensures e }
+    let i = c .before .before in
+    rw (sym (i .before .before .is-chunk .ensures) ∙ i .before .if1 .left, sym (i .is-index .ensures) ∙ c .before .if2 .taken) (c .index-fits .ensures)
 
 returns-3 : tie.Need-returns-3
+unfolding partFits
 returns-3 c =
-    let not = sym (c .before .before .before .is-chunk .ensures) ∙ c .before .before .if1 .left in
-    let neither = sym (c .before .is-index .ensures) ∙ c .if2 .left in
-    λ e. record { chunk = λ q. absurd (true≢false q not); index = λ q. absurd (true≢false q neither) }
+    let i = c .before in
+    rw (sym (i .before .before .is-chunk .ensures) ∙ i .before .if1 .left, sym (i .is-index .ensures) ∙ c .if2 .left)
 
 pub part-fits-spec : {M : Type 1} → statement M
 part-fits-spec =
