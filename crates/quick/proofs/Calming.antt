@@ -42,7 +42,7 @@ use Rattle.quick.proofs.Naming.{SmallItem, name-chunk, name-other, numb
 abbrev pub totAt : List ℕ → List ℕ → (List ℕ → ℕ) → ℕ
 totAt l ps f = sumOf (λ (p : ℕ). f (rawAt l p)) ps
 
-pub part-judged : (r : List ℕ) → isPart r ≡ true → judged r ≡ true
+part-judged : (r : List ℕ) → isPart r ≡ true → judged r ≡ true
 part-judged r e = either-second (leb 1 (namespaceOf r)) _ e
 
 pub chunk-part : (r : List ℕ) → isChunk r ≡ true → isPart r ≡ true
@@ -63,7 +63,7 @@ among p ps e = let m = some-in (eqb p) ps e in rw (eqb-true p (m .0) (m .2)) (m 
 module _ (t l ps : List ℕ) (small : Small l) (named : Named t l ps) where
   -- ---- no two judged items have one name
   -- an index of version v has the name of its group
-  pub index-called : (v p : ℕ) → indexOf v (rawAt l p) ≡ true → called (groupIn v) (rawAt l p) ≡ true
+  index-called : (v p : ℕ) → indexOf v (rawAt l p) ≡ true → called (groupIn v) (rawAt l p) ≡ true
   index-called v p e =
       let r = rawAt l p in
       let index = both-first (isIndex r) _ e in

@@ -191,7 +191,7 @@ module _ (t l ps : List ℕ) (small : Small l) (C : Calm (totAt l ps)) (s : Stop
         here = all-places (s .place) (in-right (s .place) (s .before) (s .place ∷ s .after) (inl refl));
         only = λ i h. all-places _ (in-left _ (s .before) (s .place ∷ s .after) (among _ (s .before) (s .named .only i h)));
         stands = s .named .stands;
-        full = λ n h. let f = full t l k (s .none (none)) n h in (f .0, eqb-false _ k (f .1));
+        full = λ n h. let f = full t l k (s .none none) n h in (f .0, eqb-false _ k (f .1));
       }
     where
       none : stopOf t l k .place ≡ 0

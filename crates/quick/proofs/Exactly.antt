@@ -37,7 +37,7 @@ use Rattle.quick.proofs.Still.{idle-calm}
 abbrev pub repairs : List Found → List Step
 repairs fs = blobSteps fs ++ duplicateSteps fs
 
--- a version has two indices in namespace 0, or none has
+-- no version has two indices in namespace 0, or one has
 zero-either : (fs : List Found) → ZeroLone (λ (f : List ℕ → ℕ). tot f fs) ⊎ ZeroTwice (λ (f : List ℕ → ℕ). tot f fs)
 zero-either fs = go (some-of twice fs) refl
   where

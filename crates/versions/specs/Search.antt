@@ -10,7 +10,6 @@ use Rattle.found.specs.Places.{itemAt, Placed, mostItems}
 use Rattle.lists.specs.Each.{Each}
 use Rattle.versions.specs.declared.sound.Newest.{Newest}
 use Rattle.versions.specs.declared.sound.Newest.the-variants.{At, Nothing}
-use Rattle.versions.specs.Versions.{counting, soundOne}
 
 -- the places that a stage works on
 pub record Gathered (l places : List ℕ) : Type 0 where
@@ -36,7 +35,3 @@ newestIndex v w fs = best newer (keep (λ (x : Found). indexOfEither v w (x .raw
 
 unfoldable pub newestWith : ℕ → ℕ → Found → Option Found → Option Found
 newestWith v w x o = cond (indexOfEither v w (x .raw)) (some (better newer x o)) o
-
--- the index that counts, where the version is sound
-unfoldable pub soundIndex : ℕ → List Found → Option Found
-soundIndex v fs = cond (soundOne v fs (counting v fs)) (counting v fs) none

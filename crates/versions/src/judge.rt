@@ -3,7 +3,6 @@ use super::chunks::drop_version;
 use super::sound::Newest;
 use super::sound::is_sound;
 use super::sound::newest_of;
-use super::sound::sound_index;
 use flash::Ran;
 use found::Rank;
 ghost use mathlib.Core.Path.{_≡_};
@@ -47,12 +46,19 @@ pub fn drop_older(image: &mut [u8], places: &[u16], g: Rank, allowed: u64) -> Ra
 {
     let v = version_in(g, 0);
     let w = version_in(g, 0x80);
-    let Newest::At(first) = sound_index(image, places, v) else {
+    // mostly one of them stands alone, and its chunks are not counted again
+    let Newest::At(first) = newest_of(image, places, v, v) else {
         return Ran::Done(allowed);
     };
-    let Newest::At(second) = sound_index(image, places, w) else {
+    let Newest::At(second) = newest_of(image, places, w, w) else {
         return Ran::Done(allowed);
     };
+    if !is_sound(image, places, v, first) {
+        return Ran::Done(allowed);
+    }
+    if !is_sound(image, places, w, second) {
+        return Ran::Done(allowed);
+    }
     // two stand, so one is the newest: the branch spares a proof of that
     let Newest::At(newest) = newest_of(image, places, v, w) else {
         return Ran::Done(allowed);

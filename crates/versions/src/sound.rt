@@ -7,7 +7,7 @@ ghost use Rattle.found.specs.Places.{itemAt, itemsAt, Placed};
 ghost use Rattle.lists.specs.Each.{Each};
 ghost use Rattle.found.specs.Ranks.{rankNumber};
 ghost use Rattle.versions.specs.Versions.{sound};
-ghost use Rattle.versions.specs.Search.{Gathered, newestOf, PlacedAt, indexOfEither, newestIndex, newestWith, soundIndex};
+ghost use Rattle.versions.specs.Search.{Gathered, newestOf, PlacedAt, indexOfEither, newestIndex, newestWith};
 
 // The place of the newest index so far.
 pub enum Newest {
@@ -94,20 +94,5 @@ pub fn is_sound(image: &[u8], places: &[u16], v: Rank, index: usize) -> bool
         entry::index_size(image, index * ENTRY_BYTES) as u64 == size
     } else {
         false
-    }
-}
-
-// The index that counts, where the version is sound.
-pub fn sound_index(image: &[u8], places: &[u16], v: Rank) -> Newest
-    requires { ⌜ Gathered (now image) (now places) ⌝ }
-    ensures { λ r. ⌜ (newestOf (now (image .entry)) r ≡ soundIndex (rankNumber v) (itemsAt (now (image .entry)) (now (places .entry)))) × PlacedAt (now (image .entry)) r ⌝ }
-{
-    let Newest::At(index) = newest_of(image, places, v, v) else {
-        return Newest::Nothing;
-    };
-    if is_sound(image, places, v, index) {
-        Newest::At(index)
-    } else {
-        Newest::Nothing
     }
 }

@@ -5,6 +5,7 @@ use mathlib.Core.List.{List}
 use Prim.Native.Nat.{ℕ, _+_, _*_, _-_, _≤_}
 use native.Mathlib.Numerals.{add-one}
 use native.Mathlib.Omega.{arith}
+use lib.Dec.{eqb}
 use borrow.Author.Tests.{leb-true}
 use borrow.Author.Needs.{needs}
 use Rattle.entry.specs.Fields.{chunkSize, indexCount, indexSize}
@@ -141,7 +142,8 @@ returns-2 c =
     let size : c .index-size .result ≡ indexSize r = c .index-size .ensures ∙ sym (le-at image i (a .pre .1) 24 4 (omega arith)) in
     let sum = sym (l .loop .inv .3) ∙ ap₂ (λ (x m : ℕ). sumTo (λ j. chunkSize (toldRaw (a .args .slots .now) image (chunkName x j))) m) version end in
     let all = sym (ap₂ (λ (x m : ℕ). allTo (hasChunk (a .args .slots .now) image x) m) version end) ∙ l .loop .inv .2 in
-    rw (all, ← sum, size)
+    let answer : eqb (l .loop .size) (c .index-size .result) ≡ indexFits (a .args .slots .now) image r = rw (all, ← sum, size) in
+    answer
 
 pub index-fits-spec : {M : Type 1} → statement M
 index-fits-spec =
