@@ -24,9 +24,10 @@ use Rattle.found.specs.Places.{itemAt, itemsAt}
 use Rattle.versions.specs.Versions.{chunkNumbered, sizeIn}
 use Rattle.duplicates.specs.Duplicates.{ranked}
 use Rattle.quick.specs.Calm.{Calm, inGroup, partOf, tot}
-use Rattle.quick.specs.Names.{chunkName, judged, nameOf}
-use Rattle.quick.specs.Slots.{rawAt, told}
-use Rattle.quick.specs.Fits.{Led, Named, allFit, called, partFits, toldRaw}
+use Rattle.slots.specs.Names.{chunkName, judged, nameOf}
+use Rattle.slots.specs.Slots.{rawAt, told}
+use Rattle.slots.specs.Named.{Led, Named, called, toldRaw}
+use Rattle.fits.specs.Fits.{allFit, partFits}
 use Rattle.quick.proofs.Counts.{in-pos, one-le, pos-in, sum-only}
 use Rattle.lists.proofs.Each.{of-each}
 use Rattle.found.proofs.Keys.{key-lt}
@@ -35,7 +36,7 @@ use Rattle.quick.proofs.Versions.{index-not-chunk, index-part}
 use Rattle.quick.proofs.Fitting.{ChunkFits, HasChunk, IndexFits, all-facts, chunk-facts, index-facts, part-chunk, part-index}
 use Rattle.quick.proofs.Idle.{calm-same}
 use Rattle.quick.proofs.Lone.{one-index, one-version}
-use Rattle.quick.proofs.Looking.{told-name, told-slot}
+use Rattle.slots.proofs.Looking.{told-name, told-slot}
 use Rattle.quick.proofs.Naming.{SmallItem, name-chunk, name-other, number-same}
 
 -- f summed over the bytes of the items at the places

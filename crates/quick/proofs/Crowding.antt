@@ -20,12 +20,14 @@ use Rattle.found.proofs.Versions.{version-group}
 use Rattle.versions.specs.Versions.{chunkNumbered, sizeIn, versionIn}
 use Rattle.blobs.proofs.Ordered.{start-either, version-is}
 use Rattle.quick.specs.Calm.{Calm, inGroup, partOf}
-use Rattle.quick.specs.Names.{chunkName, judged, nameOf}
-use Rattle.quick.specs.Slots.{rawAt, stopOf, told}
-use Rattle.quick.specs.Fits.{Crowded, Named, Stopped, allFit, called, partFits}
+use Rattle.slots.specs.Names.{chunkName, judged, nameOf}
+use Rattle.slots.specs.Slots.{rawAt, stopOf, told}
+use Rattle.slots.specs.Named.{Named, Stopped, called}
+use Rattle.fits.specs.Fits.{allFit, partFits}
+use Rattle.quick.specs.Crowded.{Crowded}
 use Rattle.quick.proofs.Counts.{in-pos, one-le, pos-in}
 use Rattle.quick.proofs.Naming.{name-other, same-chunk, same-other}
-use Rattle.quick.proofs.Looking.{full, told-name, told-slot}
+use Rattle.slots.proofs.Looking.{full, told-name, told-slot}
 use Rattle.quick.proofs.Fitting.{ChunkFits, HasChunk, IndexFits, all-fit, chunk-fits, index-fits, part-fits}
 use Rattle.quick.proofs.Calming.{Small, among, chunk-called, chunk-part, led-to, of-chunks, of-index, to-index, totAt}
 

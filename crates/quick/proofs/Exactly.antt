@@ -27,7 +27,7 @@ use Rattle.found.proofs.Finding.{items-found}
 use Rattle.blobs.specs.Blobs.{blobSteps}
 use Rattle.duplicates.specs.Duplicates.{duplicateSteps}
 use Rattle.quick.specs.Calm.{Calm, ZeroLone, ZeroTwice, tot, zeroIndex}
-use Rattle.quick.specs.Fits.{Crowded}
+use Rattle.quick.specs.Crowded.{Crowded}
 use Rattle.quick.proofs.Idle.{blob-idle, duplicate-idle}
 use Rattle.quick.proofs.Counts.{pos-in}
 use Rattle.quick.proofs.Calming.{small-items}

@@ -12,10 +12,11 @@ use Rattle.page.proofs.Tests.{both-first, both-is, both-second}
 use Rattle.lists.specs.Lists.{allTo, sumTo}
 use Rattle.lists.proofs.Passing.{all-at, all-to}
 use Rattle.found.specs.Found.{chunkOf, groupOf, indexOf, isChunk, isIndex, versionOf}
-use Rattle.quick.specs.Names.{chunkName}
-use Rattle.quick.specs.Slots.{EachSlot, rawAt, told}
-use Rattle.quick.specs.Fits.{allFit, chunkFits, hasChunk, indexFits, partFits, toldRaw}
-use Rattle.quick.proofs.Looking.{slot-in}
+use Rattle.slots.specs.Names.{chunkName}
+use Rattle.slots.specs.Slots.{EachSlot, rawAt, told}
+use Rattle.slots.specs.Named.{toldRaw}
+use Rattle.fits.specs.Fits.{allFit, chunkFits, hasChunk, indexFits, partFits}
+use Rattle.slots.proofs.Looking.{slot-in}
 use Rattle.quick.proofs.Versions.{index-not-chunk}
 
 module _ (t l : List ℕ) where

@@ -1,8 +1,6 @@
 pub mod Counts
 pub mod Versions
 pub mod Idle
-pub mod Looking
-pub mod Filling
 pub mod Pages
 pub mod Naming
 pub mod Fitting

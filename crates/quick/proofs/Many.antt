@@ -13,12 +13,12 @@ use Rattle.lists.proofs.Numbers.{by-number}
 use Rattle.lists.proofs.Range.{sumTo-least}
 use Rattle.lists.proofs.Sums.{sum-ext, sum-ge, sum-le, sum-plus}
 use Rattle.table.proofs.Places.{length-sum}
-use Rattle.quick.specs.declared.slots.Stop.{Stop}
-use Rattle.quick.specs.Names.{nameOf, slotOf}
-use Rattle.quick.specs.Slots.{rawAt, stopOf}
-use Rattle.quick.specs.Fits.{Crowded}
+use Rattle.slots.specs.declared.Stop.{Stop}
+use Rattle.slots.specs.Names.{nameOf, slotOf}
+use Rattle.slots.specs.Slots.{rawAt, stopOf}
+use Rattle.quick.specs.Crowded.{Crowded}
 use Rattle.quick.proofs.Counts.{in-pos}
-use Rattle.quick.proofs.Looking.{slot-below}
+use Rattle.slots.proofs.Looking.{slot-below}
 use Rattle.quick.proofs.Calming.{among}
 
 module _ (t l ps : List ℕ) (c : Crowded t l ps) where

@@ -9,7 +9,7 @@ use Rattle.entry.proofs.Keys.{two-high, two-low}
 use Rattle.entry.specs.Fields.{chunkIndexOf, chunkNumber, keyNumber, keyOf, namespaceOf, startOf}
 use Rattle.found.specs.Found.{groupOf, isChunk, startIn, versionOf}
 use Rattle.versions.proofs.Indices.{start-number}
-use Rattle.quick.specs.Names.{chunkName, frontOf, nameOf}
+use Rattle.slots.specs.Names.{chunkName, frontOf, nameOf}
 use Rattle.quick.proofs.Versions.{pow-pos}
 
 pub name-other : (r : List ℕ) → isChunk r ≡ false → nameOf r ≡ groupOf r

@@ -9,7 +9,7 @@ use Rattle.found.specs.Found.{found}
 use Rattle.found.specs.Places.{placeOf, Lies, Placed}
 use Rattle.lists.specs.Each.{Each}
 use Rattle.found.proofs.Finding.{found-placed, places-more}
-use Rattle.quick.specs.Fits.{Filled, Named, Stopped}
+use Rattle.slots.specs.Named.{Filled, Named, Stopped}
 
 -- the table has the items of the pages before, where `pages` are those from here on, and `all` the places on all of them
 abbrev pub SoFar : List ℕ → List ℕ → List Page → List ℕ → Type 0

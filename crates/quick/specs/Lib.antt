@@ -1,4 +1,2 @@
 pub mod Calm
-pub mod Names
-pub mod Slots
-pub mod Fits
+pub mod Crowded

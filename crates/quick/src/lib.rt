@@ -1,8 +1,4 @@
 // Whether stages 3 and 4 have nothing to repair, in time linear in the items: a table leads from names to items, and each part of a blob is tested by it.
-mod fits;
-mod names;
-mod slots;
-
 use crc::CrcTable;
 use layout::FIRST_PLACE;
 use layout::PAGE_ENTRIES;
@@ -21,11 +17,9 @@ ghost use Rattle.found.specs.Places.{placeOf, Lies};
 ghost use Rattle.lists.specs.Each.{Each};
 ghost use Rattle.records.specs.Notes.{Noted};
 ghost use Rattle.quick.specs.Calm.{Calm, tot};
-ghost use Rattle.quick.specs.Slots.{Leads};
-ghost use Rattle.quick.specs.Fits.{Named, Stopped, Crowded};
-
-// The slots: some two for each item that an image can hold.
-pub const SLOTS: usize = 4096;
+ghost use Rattle.slots.specs.Slots.{Leads};
+ghost use Rattle.slots.specs.Named.{Named, Stopped};
+ghost use Rattle.quick.specs.Crowded.{Crowded};
 
 // Fills the table page by page, so that a list of one page's places is enough, and notes what each walk counted. Says whether no two judged items have the
 // same name, and none is crowded out.

@@ -4,7 +4,7 @@ use answer::Went;
 use crc::CrcTable;
 use flash::Ran;
 use layout::SECTOR_BYTES;
-use quick::SLOTS;
+use slots::SLOTS;
 use table::Table;
 ghost use mathlib.Core.Path.{_≡_};
 ghost use Prim.Native.Nat.{_+_, _≤_, _*_};

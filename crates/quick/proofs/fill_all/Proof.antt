@@ -21,8 +21,8 @@ use Rattle.table.proofs.Listing.{element, listed-end}
 use Rattle.found.specs.Places.{placeOf, Lies}
 use Rattle.found.specs.Found.{found}
 use Rattle.lists.proofs.Each.{each-front}
-use Rattle.quick.specs.Slots.{Leads}
-use Rattle.quick.proofs.Filling.{none-leads, none-named}
+use Rattle.slots.specs.Slots.{Leads}
+use Rattle.slots.proofs.Filling.{none-leads, none-named}
 use Rattle.quick.proofs.Pages.{page-filled, page-placed, page-stopped, placesOn, SoFar}
 use Rattle.quick.proofs.fill_all.Statement.{statement}
 use Rattle.quick.proofs.fill_all.Tie as tie
