@@ -28,7 +28,7 @@ fn judge_start(image: &mut [u8], places: &[u16], start: u32, allowed: u64) -> Ra
     while a < places.len() {
         let e = sort::run_end(image, places, a);
         let g = found::group_at(image, found::place_at(places, a));
-        let r = versions::judge_version(image, &places[a..e], versions::version_in(g, start), left);
+        let r = judging::judge_version(image, &places[a..e], judging::version_in(g, start), left);
         let Ran::Done(rest) = r else {
             return Ran::Stopped;
         };
@@ -95,7 +95,7 @@ fn drop_all_older(image: &mut [u8], places: &[u16], allowed: u64) -> Ran
     while a < places.len() {
         let e = sort::run_end(image, places, a);
         let g = found::group_at(image, found::place_at(places, a));
-        let r = versions::drop_older(image, &places[a..e], g, left);
+        let r = judging::drop_older(image, &places[a..e], g, left);
         let Ran::Done(rest) = r else {
             return Ran::Stopped;
         };

@@ -1,8 +1,6 @@
-// A blob's versions: which index counts, whether the chunks are as it says, and what goes.
-mod chunks;
-mod judge;
+// A blob's versions: which index counts, and whether the chunks are as it says.
 mod sound;
 
-pub use judge::drop_older;
-pub use judge::judge_version;
-pub use judge::version_in;
+pub use sound::Newest;
+pub use sound::is_sound;
+pub use sound::newest_of;

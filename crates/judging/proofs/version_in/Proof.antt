@@ -3,8 +3,8 @@ use native.Mathlib.Omega.{arith}
 use lib.Pow.{high, low}
 use borrow.Author.Needs.{needs}
 use Rattle.found.proofs.Ranking.{key-below}
-use Rattle.versions.proofs.judge.version_in.Statement.{statement}
-use Rattle.versions.proofs.judge.version_in.Tie as tie
+use Rattle.judging.proofs.version_in.Statement.{statement}
+use Rattle.judging.proofs.version_in.Tie as tie
 
 returns : tie.Need-returns
 returns c =

@@ -3,9 +3,9 @@ use mathlib.Core.Path.{refl}
 use borrow.Author.Needs.{needs}
 use Rattle.flash.proofs.Laws.{goes-start, goes-on, goes-stop, goes-last}
 use Rattle.found.proofs.Alike.{alike-trans, each-alike, items-alike}
 use Rattle.versions.specs.Versions.{dropVersion}
-use Rattle.versions.proofs.chunks.drop_version.Statement.{statement}
-use Rattle.versions.proofs.chunks.drop_version.Tie as tie
+use Rattle.judging.proofs.chunks.drop_version.Statement.{statement}
+use Rattle.judging.proofs.chunks.drop_version.Tie as tie
 
 returns : tie.Need-returns
 unfolding dropVersion

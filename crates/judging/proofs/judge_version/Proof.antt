@@ -5,11 +5,11 @@ use Rattle.flash.proofs.Laws.{did-none}
 use Rattle.found.specs.Ranks.{rankNumber}
 use Rattle.found.specs.Places.{itemsAt}
 use Rattle.found.proofs.Alike.{alike-refl}
 use Rattle.versions.specs.Versions.{judgeWith, judge}
 use Rattle.versions.specs.Search.{newestOf}
 use Rattle.versions.proofs.Newer.{newest-counts}
-use Rattle.versions.proofs.judge.judge_version.Statement.{statement}
-use Rattle.versions.proofs.judge.judge_version.Tie as tie
+use Rattle.judging.proofs.judge_version.Statement.{statement}
+use Rattle.judging.proofs.judge_version.Tie as tie
 
 returns : tie.Need-returns
 unfolding judge judgeWith

@@ -10,12 +10,12 @@ use Rattle.flash.proofs.Laws.{did-none}
 use Rattle.found.specs.Ranks.{rankNumber}
 use Rattle.found.specs.Places.{itemAt, itemsAt, Placed}
 use Rattle.found.proofs.Alike.{alike-refl}
 use Rattle.versions.specs.Search.{newestIndex, newestOf}
 use Rattle.versions.specs.Versions.{counting, dropVersion, older, sound, versionIn}
 use Rattle.versions.proofs.Newer.{newest-counts}
 use Rattle.versions.proofs.Older.{by-index, no-index, older-first, older-second, older-none, older-some}
-use Rattle.versions.proofs.judge.drop_older.Statement.{statement}
-use Rattle.versions.proofs.judge.drop_older.Tie as tie
+use Rattle.judging.proofs.drop_older.Statement.{statement}
+use Rattle.judging.proofs.drop_older.Tie as tie
 
 -- ---- back from a state to those before it
 abbrev entered : tie.After-newest-of → tie.Start

@@ -1,17 +1,19 @@
 // A version judged, and of two sound ones the older.
-use super::chunks::drop_version;
-use super::sound::Newest;
-use super::sound::is_sound;
-use super::sound::newest_of;
+mod chunks;
+
+use chunks::drop_version;
 use flash::Ran;
 use found::Rank;
+use versions::Newest;
+use versions::is_sound;
+use versions::newest_of;
 ghost use mathlib.Core.Path.{_≡_};
 ghost use Prim.Native.Nat.{_<_};
 ghost use Rattle.flash.specs.Did.{Did};
 ghost use Rattle.found.specs.Places.{itemsAt, Alike};
 ghost use Rattle.found.specs.Ranks.{rankNumber};
 ghost use Rattle.versions.specs.Versions.{versionIn, judge, older};
 ghost use Rattle.versions.specs.Search.{Gathered};
 
 // A version that has no index, or not the chunks that its index tells, goes.
 pub fn judge_version(image: &mut [u8], places: &[u16], v: Rank, allowed: u64) -> Ran
