@@ -60,12 +60,12 @@ fn erase_old(image: &mut [u8], places: &[u16], sorted: &[u16], i: usize, allowed
     let place = found::place_at(sorted, i);
     let kept = found::place_at(sorted, sorted.len() - 1);
     let span = found::span_at(image, place);
-    let r = found::erase_at(image, place, span, allowed);
+    let r = erasing::erase_at(image, place, span, allowed);
     let Ran::Done(left) = r else {
         return Ran::Stopped;
     };
     if takes_chunks(image, &sorted[..i], place, kept) {
-        return found::erase_chunks(image, places, found::version_at(image, place), left);
+        return erasing::erase_chunks(image, places, found::version_at(image, place), left);
     }
     Ran::Done(left)
 }

@@ -1,8 +1,6 @@
 // What stands at a place.
 use super::ranks::Rank;
-use flash::Ran;
 use layout::ENTRY_BYTES;
-use layout::FIRST_PLACE;
 use layout::SECTOR_BYTES;
 use layout::SECTOR_PLACES;
 use layout::VERSION_CHUNKS;
@@ -11,10 +9,8 @@ ghost use mathlib.Core.Bool.{_||_};
 ghost use Prim.Native.Nat.{_+_, _%_, _≤_, _<_};
 ghost use lib.ListN.{length};
 ghost use Rattle.entry.specs.Fields.{chunkNumber, namespaceOf, spanOf};
-ghost use Rattle.flash.specs.Did.{Did};
-ghost use Rattle.item.specs.Erase.{erasing};
 ghost use Rattle.found.specs.Found.{newer, isChunk, isIndex, isPart, startIn, versionOf, groupOf};
-ghost use Rattle.found.specs.Places.{itemAt, Placed, Alike};
+ghost use Rattle.found.specs.Places.{itemAt, Placed};
 ghost use Rattle.found.specs.Ranks.{rankNumber};
 
 // By the type byte alone, as each item is asked for it more than once.
@@ -115,18 +111,4 @@ pub fn is_newer(image: &[u8], later: usize, place: usize) -> bool
     } else {
         before < after
     }
-}
-
-// Erases `n` entries from the item's first on.
-pub fn erase_at(image: &mut [u8], place: usize, n: usize, allowed: u64) -> Ran
-    requires { ⌜ Placed (now image) place × (1 ≤ n) × (place % 128 + n ≤ 128) ⌝ }
-    ensures { λ r. ⌜ Did (erasing (itemAt (now (image .entry)) place .sector) (itemAt (now (image .entry)) place .entry) n) allowed (now (image .entry)) (now (image .exit)) r × Alike (now (image .entry)) (now (image .exit)) ⌝ }
-{
-    item::erase_item(
-        image,
-        place / SECTOR_PLACES,
-        place % SECTOR_PLACES - FIRST_PLACE,
-        n,
-        allowed,
-    )
 }

@@ -4,9 +4,7 @@ mod items;
 mod places;
 mod ranks;
 
-pub use chunks::erase_chunks;
 pub use chunks::is_chunk_of;
-pub use items::erase_at;
 pub use items::group_at;
 pub use items::is_chunk;
 pub use items::is_index;
@@ -17,7 +15,6 @@ pub use items::number_at;
 pub use items::span_at;
 pub use items::start_at;
 pub use items::version_at;
-pub use places::gather;
 pub use places::place_at;
 pub use ranks::Rank;
 pub use ranks::rank_less;

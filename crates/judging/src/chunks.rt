@@ -12,9 +12,9 @@ pub fn drop_version(image: &mut [u8], places: &[u16], v: Rank, index: usize, all
     requires { ⌜ Each (Placed (now image)) (now places) × Placed (now image) index ⌝ }
     ensures { λ r. ⌜ Did (dropVersion (rankNumber v) (itemAt (now (image .entry)) index) (itemsAt (now (image .entry)) (now (places .entry)))) allowed (now (image .entry)) (now (image .exit)) r × Alike (now (image .entry)) (now (image .exit)) ⌝ }
 {
-    let r = found::erase_at(image, index, 1, allowed);
+    let r = erasing::erase_at(image, index, 1, allowed);
     let Ran::Done(left) = r else {
         return Ran::Stopped;
     };
-    found::erase_chunks(image, places, v, left)
+    erasing::erase_chunks(image, places, v, left)
 }

@@ -21,7 +21,7 @@ pub fn judge_version(image: &mut [u8], places: &[u16], v: Rank, allowed: u64) ->
     ensures { λ r. ⌜ Did (judge (itemsAt (now (image .entry)) (now (places .entry))) (rankNumber v)) allowed (now (image .entry)) (now (image .exit)) r × Alike (now (image .entry)) (now (image .exit)) ⌝ }
 {
     let Newest::At(index) = newest_of(image, places, v, v) else {
-        return found::erase_chunks(image, places, v, allowed);
+        return erasing::erase_chunks(image, places, v, allowed);
     };
     if is_sound(image, places, v, index) {
         return Ran::Done(allowed);

@@ -59,7 +59,7 @@ fn after_blobs(
     if quick::is_calm(t, image, table, room, notes) {
         return close_full(image, table, allowed);
     }
-    let n = found::gather(t, image, table, room, notes);
+    let n = gathering::gather(t, image, table, room, notes);
     repair_items(image, table, room, n, allowed)
 }
 
@@ -75,7 +75,7 @@ fn repair(
     requires { ⌜ (now t ≡ crcTable) × Sized table × PagesPlaced (sectorsOf (now image)) (listed table) (freed table) × Each (Lies (now image)) (listed table) × (4096 ≤ length (now room)) × Noted (now notes) (now image) ⌝ }
     ensures { λ r. ⌜ Made (lastStages (listed table) (now (image .entry))) allowed (now (image .entry)) (now (image .exit)) r × Counted (now (notes .exit)) (now (image .exit)) r ⌝ }
 {
-    let n = found::gather(t, image, table, room, notes);
+    let n = gathering::gather(t, image, table, room, notes);
     if !blobs::any_part(image, &room[..n]) {
         return repair_items(image, table, room, n, allowed);
     }

@@ -2,10 +2,10 @@
 use Prim.Native.Nat.{_-_, _/_, _%_}
 use native.Mathlib.Omega.{arith}
 use borrow.Author.Needs.{needs}
 use Rattle.found.specs.Places.{itemAt}
 use Rattle.found.proofs.Alike.{erasing-alike}
-use Rattle.found.proofs.items.erase_at.Statement.{statement}
-use Rattle.found.proofs.items.erase_at.Tie as tie
+use Rattle.erasing.proofs.erase_at.Statement.{statement}
+use Rattle.erasing.proofs.erase_at.Tie as tie
 
 returns : tie.Need-returns
 unfolding itemAt

@@ -8,14 +8,14 @@ use borrow.Author.Needs.{needs}
 use borrow.Author.Tests.{not-true, not-false}
 use Rattle.flash.specs.Did.{Goes}
 use Rattle.flash.proofs.Laws.{goes-start, goes-on, goes-stop, goes-end, goes-same}
 use Rattle.found.specs.Ranks.{rankNumber}
 use Rattle.found.specs.Places.{itemAt, Placed, Alike}
 use Rattle.found.specs.Found.{Found, chunkOf}
 use Rattle.found.proofs.Alike.{alike-refl, alike-trans, placed-alike, item-alike}
 use Rattle.lists.proofs.Each.{each-at}
 use Rattle.found.proofs.Erasing.{chunksAt, chunk-more, chunk-not, chunks-end}
-use Rattle.found.proofs.chunks.erase_chunks.Statement.{statement}
-use Rattle.found.proofs.chunks.erase_chunks.Tie as tie
+use Rattle.erasing.proofs.erase_chunks.Statement.{statement}
+use Rattle.erasing.proofs.erase_chunks.Tie as tie
 
 abbrev Inv-loop : tie.InvT-loop
 Inv-loop image₀ places v allowed left₀ i₀ image left i =

@@ -15,12 +15,12 @@ use Rattle.table.specs.declared.Page.{Page}
 use Rattle.table.specs.Table.{listed}
 use Rattle.flash.proofs.Sectors.{lent-sector}
 use Rattle.table.proofs.Listing.{element, listed-end}
 use Rattle.found.specs.Places.{placeOf, Lies}
 use Rattle.found.specs.Found.{found}
 use Rattle.found.proofs.Finding.{places-more}
 use Rattle.lists.proofs.Each.{each-front}
-use Rattle.found.proofs.places.gather.Statement.{statement}
-use Rattle.found.proofs.places.gather.Tie as tie
+use Rattle.gathering.proofs.gather.Statement.{statement}
+use Rattle.gathering.proofs.gather.Tie as tie
 
 -- what an index past the end of the array would give
 abbrev noPage : Page
