@@ -5,20 +5,14 @@ use mathlib.Core.List.{List, [], _++_}
 use Prim.Native.Nat.{ℕ, zero, suc, _-_}
 use lib.Dec.{leb, ltb}
 use Rattle.flash.specs.Step.{run}
-use Rattle.answer.specs.declared.Stage.the-variants.{Order, Blobs, Duplicates}
+use Rattle.answer.specs.declared.Stage.the-variants.{Order}
 use Rattle.answer.specs.Staged.{Staged, tag, untag}
 use Rattle.lists.specs.Lists.{greatest}
 use Rattle.table.specs.declared.Page.{Page}
 use Rattle.table.specs.Table.{wholeSectors, pages, frees, sequence}
 use Rattle.order.specs.Order.{ordering, ordered}
 use Rattle.finishing.specs.Finishing.{freeings, finishing}
-use Rattle.found.specs.Found.{found}
-use Rattle.blobs.specs.Blobs.{blobSteps}
-use Rattle.duplicates.specs.Duplicates.{duplicateStage}
-
--- 3 and 4: "This stage and the next each judge by the items found as they begin"
-unfoldable pub lastStages : List Page → List ℕ → List Staged
-lastStages ps l = let b = blobSteps (found ps l) in tag Blobs b ++ tag Duplicates (duplicateStage ps (run b l))
+unfoldable pub use Rattle.repair.specs.Repair.{lastStages}
 
 -- 1 on the list, then 3 and 4 on what it left
 unfoldable pub fromOrder : List Page → List ℕ → List Staged

@@ -1,7 +1,7 @@
 -- `stages::from_finish` meets its contract: stage 2, and then the scan of what it left. Assumes nothing.
 use Rattle.table.specs.Table.{listed, freed}
 use Rattle.stages.proofs.Sequence.{finish-stop, finish-on}
-use Rattle.stages.proofs.Counting.{stop-counted}
+use Rattle.repair.proofs.Counting.{stop-counted}
 use borrow.Author.Needs.{needs}
 use Rattle.stages.proofs.from_finish.Statement.{statement}
 use Rattle.stages.proofs.from_finish.Tie as tie

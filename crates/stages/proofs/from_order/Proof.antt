@@ -3,7 +3,7 @@ use mathlib.Core.Path.{refl}
 use Rattle.table.specs.Table.{pages}
 use Rattle.stages.proofs.Sequence.{order-stop, order-on}
 use Rattle.stages.proofs.Listed.{held-placed, stage-1}
-use Rattle.stages.proofs.Counting.{stop-counted}
+use Rattle.repair.proofs.Counting.{stop-counted}
 use borrow.Author.Needs.{needs}
 use Rattle.stages.proofs.from_order.Statement.{statement}
 use Rattle.stages.proofs.from_order.Tie as tie

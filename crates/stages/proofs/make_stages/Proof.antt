@@ -3,7 +3,7 @@ use mathlib.Core.Path.{refl, sym, ap, _∙_}
 use Rattle.finishing.specs.Finishing.{freeings}
 use Rattle.stages.proofs.Sequence.{all-stop, none-on, some-on}
 use Rattle.stages.proofs.Listed.{held-placed, stage-1, sequences-left}
-use Rattle.stages.proofs.Counting.{stop-counted}
+use Rattle.repair.proofs.Counting.{stop-counted}
 use borrow.Author.Needs.{needs}
 use Rattle.stages.proofs.make_stages.Statement.{statement}
 use Rattle.stages.proofs.make_stages.Tie as tie

@@ -1,11 +1,11 @@
 -- `stages::last_stages` meets its contract: where no page is listed there are no steps, and where the quick test says yes, the last marks are the stages.
 -- Assumes nothing.
 use Rattle.table.specs.Table.{listed}
-use Rattle.stages.proofs.Sequence.{calm-stages, no-page-stages}
-use Rattle.stages.proofs.Counting.{none-counted, marks-counted}
+use Rattle.repair.proofs.Repairing.{calm-stages, no-page-stages}
+use Rattle.repair.proofs.Counting.{none-counted, marks-counted}
 use borrow.Author.Needs.{needs}
-use Rattle.stages.proofs.last_stages.Statement.{statement}
-use Rattle.stages.proofs.last_stages.Tie as tie
+use Rattle.repair.proofs.last_stages.Statement.{statement}
+use Rattle.repair.proofs.last_stages.Tie as tie
 
 returns : tie.Need-returns
 returns c =

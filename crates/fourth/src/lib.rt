@@ -1,5 +1,5 @@
-// The stage: groups in ascending order, then the last mark.
-use super::run::take_run;
+// Recovery's fourth stage: groups in ascending order, then the last mark: an Active page that has no Empty entry left is closed.
+use duplicates::take_run;
 use flash::Ran;
 use layout::SECTOR_BYTES;
 use sort::Order;

@@ -14,10 +14,10 @@ use Rattle.found.proofs.Finding.{items-found, found-placed}
 use Rattle.found.proofs.Lying.{lies-alike}
 use Rattle.blobs.specs.Blobs.{blobSteps}
 use Rattle.blobs.proofs.Parts.{no-step}
-use Rattle.stages.proofs.Sequence.{blobs-stop, blobs-on, no-blobs}
-use Rattle.stages.proofs.Counting.{stage-counted, stop-counted}
-use Rattle.stages.proofs.repair.Statement.{statement}
-use Rattle.stages.proofs.repair.Tie as tie
+use Rattle.repair.proofs.Repairing.{blobs-stop, blobs-on, no-blobs}
+use Rattle.repair.proofs.Counting.{stage-counted, stop-counted}
+use Rattle.repair.proofs.repair.Statement.{statement}
+use Rattle.repair.proofs.repair.Tie as tie
 
 slice-aggregate-any-part : tie.Need-slice-aggregate-any-part
 slice-aggregate-any-part c =

@@ -6,8 +6,8 @@ use borrow.Author.Needs.{needs}
 use Rattle.entry.specs.declared.states.Totals.{Totals}
 use Rattle.entry.specs.States.{empty, countState, totalsOf}
 use Rattle.flash.proofs.Sectors.{lent-sector}
-use Rattle.duplicates.proofs.stage.empty_in.Statement.{statement}
-use Rattle.duplicates.proofs.stage.empty_in.Tie as tie
+use Rattle.fourth.proofs.empty_in.Statement.{statement}
+use Rattle.fourth.proofs.empty_in.Tie as tie
 
 returns : tie.Need-returns
 unfolding totalsOf

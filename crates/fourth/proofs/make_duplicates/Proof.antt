@@ -11,9 +11,9 @@ use Rattle.sort.specs.Rank.{rankAt}
 use Rattle.lists.specs.Merge.{below}
 use Rattle.lists.proofs.Below.{each-sort}
 use Rattle.sort.proofs.After.{front-sorted, sorted-items, items-keys}
 use Rattle.duplicates.proofs.Local.{steps-by-runs}
-use Rattle.duplicates.proofs.stage.make_duplicates.Statement.{statement}
-use Rattle.duplicates.proofs.stage.make_duplicates.Tie as tie
+use Rattle.fourth.proofs.make_duplicates.Statement.{statement}
+use Rattle.fourth.proofs.make_duplicates.Tie as tie
 
 -- the places after the sort
 by-group : (c : tie.After-take-runs-arg2) →

@@ -12,10 +12,10 @@ use Rattle.table.specs.declared.Page.{Page}
 use Rattle.table.specs.Table.{listed}
 use Rattle.table.proofs.Listing.{element, listed-end}
 use Rattle.table.proofs.Places.{in-front, page-fits}
 use Rattle.duplicates.specs.Duplicates.{lastMarks}
 use Rattle.duplicates.proofs.Marking.{Marked, marked-none, marked-more, mark-more, mark-other, mark-roomy, marks-end}
-use Rattle.duplicates.proofs.stage.make_last_marks.Statement.{statement}
-use Rattle.duplicates.proofs.stage.make_last_marks.Tie as tie
+use Rattle.fourth.proofs.make_last_marks.Statement.{statement}
+use Rattle.fourth.proofs.make_last_marks.Tie as tie
 
 abbrev Inv-loop : tie.InvT-loop
 Inv-loop image₀ allowed table count left₀ i₀ image left i =

@@ -1,10 +1,10 @@
 -- `stages::after_blobs` meets its contract: where the quick test says yes, the last marks are the stage. Assumes nothing.
 use Rattle.table.specs.Table.{listed}
-use Rattle.stages.proofs.Sequence.{calm-last}
-use Rattle.stages.proofs.Counting.{marks-counted, stage-counted}
+use Rattle.repair.proofs.Repairing.{calm-last}
+use Rattle.repair.proofs.Counting.{marks-counted, stage-counted}
 use borrow.Author.Needs.{needs}
-use Rattle.stages.proofs.after_blobs.Statement.{statement}
-use Rattle.stages.proofs.after_blobs.Tie as tie
+use Rattle.repair.proofs.after_blobs.Statement.{statement}
+use Rattle.repair.proofs.after_blobs.Tie as tie
 
 returns : tie.Need-returns
 returns c =

@@ -21,7 +21,7 @@ use Rattle.found.specs.Places.{Lies}
 use Rattle.duplicates.specs.Duplicates.{lastMarks, duplicateStage}
 use Rattle.duplicates.proofs.MarksUnread.{marks-unread}
 use Rattle.duplicates.proofs.StageUnread.{stage-unread}
-use Rattle.stages.specs.Counted.{Counted}
+use Rattle.repair.specs.Counted.{Counted}
 
 -- unread entries of the image that steps leave
 unread-after : (l : List ℕ) (u : ℕ) (ss tt : List Step) → ss ≡ tt → unreadFrom (sector u (run ss l)) 126 0 ≡ unreadFrom (sector u (run tt l)) 126 0

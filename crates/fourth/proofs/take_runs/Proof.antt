@@ -14,11 +14,11 @@ use Rattle.found.proofs.Alike.{alike-refl, alike-trans}
 use Rattle.sort.specs.Rank.{groupBy}
 use Rattle.lists.specs.Runs.{runs}
 use Rattle.sort.proofs.Room.{behind-put}
 use Rattle.duplicates.specs.Runs.{runSteps}
 use Rattle.duplicates.proofs.OneGroup.{lent}
 use Rattle.duplicates.proofs.Rest.{placed-left, fits, placed-run, same-run, items-run, steps-left, kept-behind, steps-none}
-use Rattle.duplicates.proofs.stage.take_runs.Statement.{statement}
-use Rattle.duplicates.proofs.stage.take_runs.Tie as tie
+use Rattle.fourth.proofs.take_runs.Statement.{statement}
+use Rattle.fourth.proofs.take_runs.Tie as tie
 
 abbrev Inv-loop : tie.InvT-loop
 Inv-loop image₀ room₀ n allowed left₀ a₀ image room left a =
