@@ -5,8 +5,9 @@ use mathlib.Core.List.{[], _∷_, _++_}
 use Rattle.page.specs.declared.state.PageState.the-variants.{Full}
 use Rattle.records.specs.Records.{blankRecord}
 use Rattle.answer.specs.declared.Answer.the-variants.{Done}
-use Rattle.listing.specs.Text.{word, spelled, decimal}
-use Rattle.listing.specs.Listing.{counts, pageText, line, lines, head}
+use Rattle.text.specs.Text.{word, spelled, decimal}
+use Rattle.lines.specs.Lines.{counts, pageText, line, head}
+use Rattle.listing.specs.Listing.{lines}
 
 pub example :
     head 2 (Done 0) ++ lines 0 (blankRecord ∷ record { state = Full; sequence = 7; written = 3; erased = 2; empty = 121; illegal = 0; unread = 0 } ∷ []) ≡

@@ -1,13 +1,11 @@
 -- One line more, and the lines of what recovery answered. Assumes nothing.
 use mathlib.Core.Path.{_≡_, refl, sym, ap, _∙_}
-use mathlib.Core.Bool.{Bool, true, false, cond}
 use mathlib.Core.List.{List, [], _∷_, _++_, append-assoc, append-nil}
 use Prim.Native.Nat.{ℕ, suc, _+_, _/_, _≤_, _<_}
 use native.Mathlib.Omega.{arith}
 use lib.ListN.{length, take, getD}
 use lib.Seq.{take-suc, length-take-le}
 use Rattle.page.specs.declared.«record».PageRecord.{PageRecord}
-use Rattle.page.specs.State.{isFree}
 use Rattle.table.specs.Table.{sectorsOf}
 use Rattle.answer.specs.declared.Answer.{Answer}
 use Rattle.answer.specs.declared.Answer.the-variants.{Done, NotSectors, FewRecords, ActiveStands, AllWritten, NoFreeSector, SequencesSpent, Stopped}
@@ -20,21 +18,8 @@ use Rattle.recover.specs.declared.Recovered.{Recovered}
 use Rattle.recover.specs.Promise.{rowsFor, Recovers}
 use Rattle.recover.proofs.Ends.{unstopped}
 use Rattle.recover.proofs.Fixed.{recovers-answer}
-use Rattle.listing.specs.Text.{space, newline, decimal}
-use Rattle.listing.specs.Listing.{stateName, pageText, line, lines, head, linesFor, lent, allowance, answered, listing}
-
--- a sector's line, free or not
-module _ (n : ℕ) (r : PageRecord) where
-  abbrev lineBy : Bool → List ℕ
-  lineBy free = decimal n ++ (space ++ (stateName (r .state) ++ (cond free [] (pageText r) ++ newline)))
-
-  pub line-free : isFree (r .state) ≡ true → decimal n ++ (space ++ (stateName (r .state) ++ newline)) ≡ line n r
-  unfolding line
-  line-free e = ap lineBy (sym e)
-
-  pub line-page : isFree (r .state) ≡ false → decimal n ++ (space ++ (stateName (r .state) ++ (pageText r ++ newline))) ≡ line n r
-  unfolding line
-  line-page e = ap lineBy (sym e)
+use Rattle.lines.specs.Lines.{line, head}
+use Rattle.listing.specs.Listing.{lines, linesFor, lent, allowance, answered, listing}
 
 pub lines-behind : (n : ℕ) (rs : List PageRecord) (r : PageRecord) → lines n (rs ++ (r ∷ [])) ≡ lines n rs ++ line (n + length rs) r
 unfolding lines

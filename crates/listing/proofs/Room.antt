@@ -32,8 +32,9 @@ use Rattle.recover.specs.Promise.{mostSteps, recoverAnswer, calling}
 use Rattle.recover.proofs.Answered.{recover-told}
 use Rattle.recover.proofs.Ends.{steps-most}
 use Rattle.io.specs.Digits.{glyph}
-use Rattle.listing.specs.Text.{word, space, newline, spelled, decimal, field}
-use Rattle.listing.specs.Listing.{stateName, counts, pageText, line, lines, head, linesFor, allowance, lent, imageAfter, answered, listing, room}
+use Rattle.text.specs.Text.{word, space, newline, spelled, decimal, field}
+use Rattle.lines.specs.Lines.{stateName, counts, pageText, line, head}
+use Rattle.listing.specs.Listing.{lines, linesFor, allowance, lent, imageAfter, answered, listing, room}
 use Rattle.records.proofs.Reading.{length-each}
 use Rattle.listing.proofs.Lines.{lines-behind}
 

@@ -8,9 +8,10 @@ use lib.ListN.{length, take}
 use lib.Seq.{length-take-le}
 use borrow.Author.Needs.{needs}
 use Rattle.recover.proofs.Fixed.{rows-fit}
-use Rattle.listing.specs.Text.{Put}
-use Rattle.listing.specs.Listing.{lines, head}
-use Rattle.listing.proofs.Putting.{put-nothing, put-both, put-as}
+use Rattle.text.specs.Text.{Put}
+use Rattle.lines.specs.Lines.{head}
+use Rattle.listing.specs.Listing.{lines}
+use Rattle.text.proofs.Putting.{put-nothing, put-both, put-as}
 use Rattle.listing.proofs.Lines.{lines-more, rows-enough, listing-is}
 use Rattle.listing.proofs.list_image.Statement.{statement}
 use Rattle.listing.proofs.list_image.Tie as tie
