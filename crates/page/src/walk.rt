@@ -6,13 +6,12 @@ use layout::ENTRIES_AT;
 use layout::ENTRY_BYTES;
 use layout::PAGE_ENTRIES;
 ghost use mathlib.Core.Path.{_≡_};
-ghost use mathlib.Core.List.{_++_, map};
-ghost use Prim.Native.Nat.{_+_, _<_, _≤_};
+ghost use Prim.Native.Nat.{_<_, _≤_};
 ghost use lib.Dec.{eqb};
-ghost use lib.ListN.{length, take};
+ghost use lib.ListN.{length};
 ghost use Rattle.crc.specs.Table.{crcTable};
 ghost use Rattle.entry.specs.States.{one, written, stateAt};
-ghost use Rattle.page.specs.Walk.{Laid, isItem, walk, readingOf};
+ghost use Rattle.page.specs.Walk.{isItem, readingOf};
 ghost use Rattle.page.specs.Unread.{unreadFrom};
 
 // An item as its header tells it: where it stands, and what the 32 bytes say. `data_bytes` is the eight data bytes as a number, lowest first.
@@ -32,7 +31,7 @@ pub enum Reading {
 }
 
 // Whether an item begins at entry `i`. The CRC is tested late: it is what costs time.
-fn is_item(t: &CrcTable, s: &[u8], i: usize) -> bool
+pub fn is_item(t: &CrcTable, s: &[u8], i: usize) -> bool
     requires { ⌜ (now t ≡ crcTable) × (length (now s) ≡ 4096) × (i < 126) ⌝ }
     ensures { λ r. ⌜ r ≡ isItem (now (s .entry)) i ⌝ }
 {
@@ -85,34 +84,7 @@ pub fn one_written(s: &[u8], i: usize) -> u8
     if entry::entry_state(s, i) == 2 { 1 } else { 0 }
 }
 
-// What one walk of a sector gives: where the places end that it stored, and how many entries are unread.
-pub struct Walked {
-    pub end: usize,
-    pub unread: u8,
-}
-
-// The entry numbers of the sector's items plus `base`, into `out` from `from` on: one walk, each entry read once and no header made.
-pub fn places(t: &CrcTable, s: &[u8], base: usize, out: &mut [u16], from: usize) -> Walked
-    requires { ⌜ (now t ≡ crcTable) × (length (now s) ≡ 4096) × (base + 126 ≤ 65536) × (from + 126 ≤ length (now out)) ⌝ }
-    ensures { λ r. ⌜ (take (r .end) (now (out .exit)) ≡ take from (now (out .entry)) ++ map (λ (x : Laid). base + x .entry) (walk (now (s .entry)) 126 0)) × (r .end ≤ from + 126) × (r .unread ≡ unreadFrom (now (s .entry)) 126 0) ⌝ }
-{
-    let mut end = from;
-    let mut unread: u8 = 0;
-    let mut i: usize = 0;
-    while i < PAGE_ENTRIES {
-        if !is_item(t, s, i) {
-            unread += one_written(s, i);
-            i += 1;
-            continue;
-        }
-        out[end] = (base + i) as u16;
-        end += 1;
-        i += word::size(s[ENTRIES_AT + i * ENTRY_BYTES + 2]);
-    }
-    Walked { end, unread }
-}
-
-// How many entries of the sector are unread: the same walk without the places, which nobody wants here.
+// How many entries of the sector are unread: the walk of crate walking without the places, which nobody wants here.
 pub fn unread_of(t: &CrcTable, s: &[u8]) -> u8
     requires { ⌜ (now t ≡ crcTable) × (length (now s) ≡ 4096) ⌝ }
     ensures { λ r. ⌜ r ≡ unreadFrom (now (s .entry)) 126 0 ⌝ }

@@ -16,7 +16,7 @@ pub extern "C" fn timing_walk(sector: &[u8]) -> usize {
     }
     let t = crc::table();
     let mut out = [0u16; PAGE_ENTRIES];
-    let walked = page::places(&t, sector, 0, &mut out, 0);
+    let walked = walking::places(&t, sector, 0, &mut out, 0);
     walked.end
 }
 

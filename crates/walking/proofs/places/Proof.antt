@@ -9,14 +9,14 @@ use lib.Dec.{lit<}
 use lib.ListN.{length, take, length-set}
 use Rattle.word.proofs.Bytes.{part-byte}
 use Rattle.entry.specs.Fields.{entryAt, spanOf}
 use Rattle.page.specs.Walk.{isItem}
 use Rattle.page.specs.Unread.{unreadFrom}
 use Rattle.page.proofs.Tests.{not-true, not-false}
 use Rattle.page.proofs.Walking.{item-span}
 use Rattle.page.proofs.Unread.{unread-past, unread-item, unread-skip}
 use Rattle.page.proofs.Placing.{placesFrom, place-more, place-same, place-end}
-use Rattle.page.proofs.walk.places.Statement.{statement}
-use Rattle.page.proofs.walk.places.Tie as tie
+use Rattle.walking.proofs.places.Statement.{statement}
+use Rattle.walking.proofs.places.Tie as tie
 
 abbrev Inv-loop : tie.InvT-loop
 Inv-loop t s base out₀ from end₀ unread₀ i₀ out end unread i =
