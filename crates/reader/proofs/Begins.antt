@@ -12,9 +12,10 @@ use denote.Ref.{RefT, now}
 use Rattle.page.specs.State.{allOnes, stateOf, isFree}
 use Rattle.page.proofs.Tests.{both-first}
 use Rattle.page.proofs.Passed.{passed-past}
-use Rattle.reader.specs.declared.Read.{Read}
-use Rattle.reader.specs.Reader.{countedOn, readOf, readOn, hasNone, readFrom, beginsAt, readNext, readerAfter}
-use Rattle.reader.proofs.Told.{read-end}
+use Rattle.reading.specs.declared.Read.{Read}
+use Rattle.reading.specs.Reading.{countedOn, readOf, readOn, hasNone, beginsAt}
+use Rattle.reader.specs.Reader.{readFrom, readNext, readerAfter}
+use Rattle.reading.proofs.Told.{read-end}
 
 module _ (s : List ℕ) where
   -- where the sector has no item

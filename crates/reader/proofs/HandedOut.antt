@@ -12,9 +12,10 @@ use Rattle.page.specs.State.{stateOf, isFree}
 use Rattle.page.specs.Walk.{Laid, laidAt, walk, itemsOf, headerOf}
 use Rattle.page.specs.Unread.{passedFrom}
 use Rattle.page.proofs.Walking.{item-span, walk-past, Ahead, done, meets, ahead}
-use Rattle.reader.specs.declared.Read.{Read}
-use Rattle.reader.specs.Reader.{countedOn, readOf, readOn, hasNone, readFrom, beginsAt, handedOut}
-use Rattle.reader.proofs.Told.{span-told}
+use Rattle.reading.specs.declared.Read.{Read}
+use Rattle.reading.specs.Reading.{countedOn, readOf, readOn, hasNone, beginsAt}
+use Rattle.reader.specs.Reader.{readFrom, handedOut}
+use Rattle.reading.proofs.Told.{span-told}
 use Rattle.reader.proofs.Begins.{begins-end, begins-first, begins-once, none-there, some-there}
 
 abbrev pub told : Laid → ItemHeader

@@ -1,4 +1,3 @@
-pub mod Told
 pub mod Begins
 pub mod HandedOut
 pub mod Passed

@@ -17,10 +17,11 @@ use Rattle.page.proofs.Items.{walk-most}
 use Rattle.page.proofs.Unread.{unread-past}
 use Rattle.page.proofs.Split.{unread-most}
 use Rattle.page.proofs.Passed.{passed-to-end, passed-to-item}
-use Rattle.reader.specs.declared.Read.{Read}
-use Rattle.reader.specs.declared.Handed.{Handed}
-use Rattle.reader.specs.declared.Handed.the-variants.{End}
-use Rattle.reader.specs.Reader.{countedOn, readOf, readOn, hasNone, beginsAt, readNext, readerAfter}
+use Rattle.reading.specs.declared.Read.{Read}
+use Rattle.reading.specs.declared.Handed.{Handed}
+use Rattle.reading.specs.declared.Handed.the-variants.{End}
+use Rattle.reading.specs.Reading.{countedOn, readOf, readOn, hasNone, beginsAt}
+use Rattle.reader.specs.Reader.{readNext, readerAfter}
 use Rattle.reader.proofs.Begins.{begins-end, begins-first}
 use Rattle.reader.proofs.HandedOut.{read-walks, begun}
 

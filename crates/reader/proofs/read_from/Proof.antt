@@ -3,7 +3,7 @@
 use mathlib.Core.Path.{ap, _∙_}
 use Prim.Native.Nat.{ℕ}
 use native.Mathlib.Omega.{arith}
-use Rattle.reader.specs.Reader.{readOn}
+use Rattle.reading.specs.Reading.{readOn}
 use Rattle.reader.proofs.Begins.{first-for, same-from}
 use borrow.Author.Needs.{needs}
 use Rattle.reader.proofs.read_from.Statement.{statement}

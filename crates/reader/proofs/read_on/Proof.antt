@@ -47,24 +47,25 @@ use denote.Triple.Walked.{says, Stays, stay-none-slice, stay-none, walkOf, goes-
 use denote.Triple.Clauses.{ensured, lasts}
 use denote.Exit.{yes}
 use Rattle.word.proofs.Local.{local-in, local-out}
-use Rattle.reader.specs.Reader.{readOn, movedReader}
+use Rattle.reading.specs.Reading.{readOn}
+use Rattle.reader.specs.Reader.{movedReader}
 use Rattle.reader.specs.declared.ItemReader.{ItemReader}
-use Rattle.reader.specs.declared.Handed.{Handed}
-use Rattle.reader.specs.declared.Read.{Read}
+use Rattle.reading.specs.declared.Handed.{Handed}
+use Rattle.reading.specs.declared.Read.{Read}
 use Rattle.reader.proofs.ItemReader as T
 use Rattle.reader.proofs.ItemReader.Laws as T′
-use Rattle.reader.proofs.Read as S
-use Rattle.reader.proofs.Read.Laws as S′
-use Rattle.reader.proofs.Handed as F
-use Rattle.reader.proofs.Handed.Laws as F′
+use Rattle.reading.proofs.Read as S
+use Rattle.reading.proofs.Read.Laws as S′
+use Rattle.reading.proofs.Handed as F
+use Rattle.reading.proofs.Handed.Laws as F′
 use Rattle.reader.proofs.ItemReader.next as next
 use Rattle.reader.proofs.ItemReader.next.Symbol as next-def
 use Rattle.reader.proofs.ItemReader.next.Symbol.{name as #reader·next}
 use Rattle.reader.proofs.ItemReader.next.Met as next-thm
-use Rattle.reader.proofs.read_of as read
-use Rattle.reader.proofs.read_of.Symbol as read-def
-use Rattle.reader.proofs.read_of.Symbol.{name as #reader·read-of}
-use Rattle.reader.proofs.read_of.Met as read-thm
+use Rattle.reading.proofs.read_of as read
+use Rattle.reading.proofs.read_of.Symbol as read-def
+use Rattle.reading.proofs.read_of.Symbol.{name as #reading·read-of}
+use Rattle.reading.proofs.read_of.Met as read-thm
 use Rattle.reader.proofs.read_on.Key.{name as #reader·read-on}
 use Rattle.reader.proofs.read_on as f
 use Rattle.reader.proofs.read_on.Statement as stated
@@ -170,7 +171,7 @@ module _ {M : Type 1} (𝓤 : URA M) (H : Heap 𝓤) (A : Atoms 𝓤) (W : Given
       qed W (‵ (S.the-row .own r (z ∷ [])) ∷ ‵ w ∷ ‵ (flft κ ql) ∷ (‵ (flft κ qr) ⊛ ‵ ftrue) ∷ ‵ ftrue ∷ ‵ Own ∷ ‵ y ∷ []) ∵
       move ! (3 ∷ []) $ split ! $ move ! (4 ∷ 0 ∷ []) $ use2 W (‵ (flft κ q)) (W .lfts .lft-join κ q) $ join ! $ keep ! (0 ∷ 1 ∷ 4 ∷ []) $ by ! (exits r z e)
 
-  module _ (C : Calls 𝓤 H) (Λ : Loops 𝓤 H) (fm : FmC 𝓤 H (W .laws) C) (known-next : Triple 𝓤 (C #reader·next) (Next 𝓤 H A at-mem run)) (known-read : Triple 𝓤 (C #reader·read-of) (ReadOf 𝓤 H A at-mem run)) where
+  module _ (C : Calls 𝓤 H) (Λ : Loops 𝓤 H) (fm : FmC 𝓤 H (W .laws) C) (known-next : Triple 𝓤 (C #reader·next) (Next 𝓤 H A at-mem run)) (known-read : Triple 𝓤 (C #reading·read-of) (ReadOf 𝓤 H A at-mem run)) where
     typed : Is (ShrSlice (named 0) κ u8) s (v ∷ []) → Holds (hasTy (T′.mir erased) rv) × WT rv
     typed p = (tt, (shr-slice-lawful 𝓤 H A W (named 0) κ u8 .typed s (v ∷ []) p .0 .1, (record { fits = n-fits }, (record { fits = c-fits }, tt))))
 
@@ -219,7 +220,7 @@ module _ {M : Type 1} (𝓤 : URA M) (H : Heap 𝓤) (A : Atoms 𝓤) (W : Given
         by ! (joined r z (B .own (ws .0) (T′.lowered (ws .0) ∷ [])) (owns (usize ∷ u8 ∷ []) (n, (c, tt)) (vint w64 n ∷ [], (vint w8 c ∷ [], tt)))
         (λ i. record { handed = (e′ .0 ∙ e .0) i; next = (e′ .1 ∙ ap (λ (k : ItemReader). k .entry) (e .1)) i; unread = (e′ .2 ∙ ap (λ (k : ItemReader). k .unread) (e .1)) i })))))))))))))))))))))))
 
-module _ {M : Type 1} (𝓤 : URA M) (H : Heap 𝓤) (A : Atoms 𝓤) (W : Given 𝓤 H A) (mem : Memory → SProp 𝓤) (run : Routine → Fun 𝓤) (𝓣 : Tables 𝓤 H) (known-next : Triple 𝓤 (𝓣 .C #reader·next) (Next 𝓤 H A mem run)) (known-read : Triple 𝓤 (𝓣 .C #reader·read-of) (ReadOf 𝓤 H A mem run)) where
+module _ {M : Type 1} (𝓤 : URA M) (H : Heap 𝓤) (A : Atoms 𝓤) (W : Given 𝓤 H A) (mem : Memory → SProp 𝓤) (run : Routine → Fun 𝓤) (𝓣 : Tables 𝓤 H) (known-next : Triple 𝓤 (𝓣 .C #reader·next) (Next 𝓤 H A mem run)) (known-read : Triple 𝓤 (𝓣 .C #reading·read-of) (ReadOf 𝓤 H A mem run)) where
   read-on-walks : Walks 𝓤 H A f.ended stayed (WpFn 𝓤 H (𝓣 .C) (𝓣 .Λ) code.function) (f.clauses 𝓤 H A mem run)
   read-on-walks = walked 𝓤 H A f.ended stayed (f.clauses 𝓤 H A mem run) (WpFn 𝓤 H (𝓣 .C) (𝓣 .Λ) code.function) (λ κs. (slice-vals, (uint-vals w64, (uint-vals w8, tt)))) (λ κs. (shr-slice-tells (named 0) (κs .0) u8, (uint-tells w64, (uint-tells w8, tt))))
       (λ κs qs bounds a g are. via 𝓤 _ (fst∗ 𝓤 _ (emp 𝓤)) (walk 𝓤 H A W mem run (κs .0) (qs .0) (a .0) (a .1 .0) (a .1 .1 .0) (are .1 .0 .1) (are .1 .1 .0 .1) (𝓣 .C) (𝓣 .Λ) (fmOf 𝓤 H (W .laws) 𝓣) known-next known-read (are .0)))
@@ -235,4 +236,4 @@ read-on-spec 𝓤 H 𝓜 𝓖 𝓡 =
     (tables 𝓤 H 𝓜 𝓡 code.env .C) (tables 𝓤 H 𝓜 𝓡 code.env .Λ) #reader·read-on code.function (code.unfolded 𝓤 H 𝓜 𝓡)
     (read-on-meets 𝓤 H (𝓖 .A) (givenOf 𝓤 H 𝓜 𝓖) (𝓜 .mem) (𝓡 .run) (tablesOf 𝓤 H 𝓜 (tables 𝓤 H 𝓜 𝓡 code.env))
     (cited 𝓤 H (Next 𝓤 H (𝓖 .A) (𝓜 .mem) (𝓡 .run)) 𝓜 𝓡 code.env #reader·next next-def.routine code.calls-reader·ItemReader·next (next-thm.met 𝓤 H 𝓜 𝓖 𝓡))
-    (cited 𝓤 H (ReadOf 𝓤 H (𝓖 .A) (𝓜 .mem) (𝓡 .run)) 𝓜 𝓡 code.env #reader·read-of read-def.routine code.calls-reader·read-of (read-thm.met 𝓤 H 𝓜 𝓖 𝓡)))
+    (cited 𝓤 H (ReadOf 𝓤 H (𝓖 .A) (𝓜 .mem) (𝓡 .run)) 𝓜 𝓡 code.env #reading·read-of read-def.routine code.calls-reading·read-of (read-thm.met 𝓤 H 𝓜 𝓖 𝓡)))

@@ -39,14 +39,15 @@ use denote.Triple.Table.{entered, cited}
 use denote.Triple.Walked.{says, Stays, stay-none-slice, walkOf, goes-none-slice, Walks, ends-at, walked, walk-meets}
 use denote.Triple.Clauses.{ensured, lasts}
 use denote.Exit.{yes}
-use Rattle.reader.specs.Reader.{beginsAt, newReader}
+use Rattle.reading.specs.Reading.{beginsAt}
+use Rattle.reader.specs.Reader.{newReader}
 use Rattle.reader.specs.declared.ItemReader.{ItemReader}
 use Rattle.reader.proofs.ItemReader as T
 use Rattle.reader.proofs.ItemReader.Laws as T′
-use Rattle.reader.proofs.begins_at as begins
-use Rattle.reader.proofs.begins_at.Symbol as begins-def
-use Rattle.reader.proofs.begins_at.Symbol.{name as #reader·begins-at}
-use Rattle.reader.proofs.begins_at.Met as begins-thm
+use Rattle.reading.proofs.begins_at as begins
+use Rattle.reading.proofs.begins_at.Symbol as begins-def
+use Rattle.reading.proofs.begins_at.Symbol.{name as #reading·begins-at}
+use Rattle.reading.proofs.begins_at.Met as begins-thm
 use Rattle.reader.proofs.ItemReader.new.Key.{name as #reader·new}
 use Rattle.reader.proofs.ItemReader.new as new
 use Rattle.reader.proofs.ItemReader.new.Statement as stated
@@ -108,7 +109,7 @@ module _ {M : Type 1} (𝓤 : URA M) (H : Heap 𝓤) (A : Atoms 𝓤) (W : Given
       nothing ! $ owned ! u8 (Is u8) (uint-makes 𝓤 H A W w8) u _ (refl, u-fits) $ fjoin ! $ owned ! usize (Is usize) (uint-makes 𝓤 H A W w64) m _ (refl, m-fits) $ fjoin ! $
       move ! (1 ∷ 0 ∷ []) $ fjoin ! $ by ! (own-shut 𝓤 H A W (T.the-type α) (T′.the-laws α) (s, (m, (u, tt))))
 
-  module _ (C : Calls 𝓤 H) (Λ : Loops 𝓤 H) (fm : FmC 𝓤 H (W .laws) C) (known : Triple 𝓤 (C #reader·begins-at) (BeginsAt 𝓤 H A mem run)) where
+  module _ (C : Calls 𝓤 H) (Λ : Loops 𝓤 H) (fm : FmC 𝓤 H (W .laws) C) (known : Triple 𝓤 (C #reading·begins-at) (BeginsAt 𝓤 H A mem run)) where
     walk : Is (ShrSlice (named 0) κ u8) s (v ∷ []) → ent 𝓤 (onEntry 𝓤 H A new.signature (κ, tt) (q, tt) (s, tt) at) (WpFn 𝓤 H C Λ code.function (v ∷ []) Post)
     walk p =
         qed W (raw (onEntry 𝓤 H A new.signature (κ, tt) (q, tt) (s, tt) at) ∷ []) ∵ enter ! C Λ code.function (v ∷ []) _ $
@@ -126,7 +127,7 @@ module _ {M : Type 1} (𝓤 : URA M) (H : Heap 𝓤) (A : Atoms 𝓤) (W : Given
         returns ! (look ! 7 refl) $ forget ! 3 refl $ forget ! 5 refl $ forget ! 7 refl $ move ! (7 ∷ 8 ∷ []) $ free1 ! $ move ! (5 ∷ 6 ∷ []) $ free1 ! $ move ! (3 ∷ 4 ∷ []) $ free1 ! $ free0 ! $
         keep ! (1 ∷ 2 ∷ []) $ by ! (exits m _ (is .1) (omega arith) (ap (λ (k : ℕ). made k 0) e)))))))))
 
-module _ {M : Type 1} (𝓤 : URA M) (H : Heap 𝓤) (A : Atoms 𝓤) (W : Given 𝓤 H A) (mem : Memory → SProp 𝓤) (run : Routine → Fun 𝓤) (𝓣 : Tables 𝓤 H) (known : Triple 𝓤 (𝓣 .C #reader·begins-at) (BeginsAt 𝓤 H A mem run)) where
+module _ {M : Type 1} (𝓤 : URA M) (H : Heap 𝓤) (A : Atoms 𝓤) (W : Given 𝓤 H A) (mem : Memory → SProp 𝓤) (run : Routine → Fun 𝓤) (𝓣 : Tables 𝓤 H) (known : Triple 𝓤 (𝓣 .C #reading·begins-at) (BeginsAt 𝓤 H A mem run)) where
   new-walks : Walks 𝓤 H A new.ended stayed (WpFn 𝓤 H (𝓣 .C) (𝓣 .Λ) code.function) (new.clauses 𝓤 H A mem run)
   new-walks = walked 𝓤 H A new.ended stayed (new.clauses 𝓤 H A mem run) (WpFn 𝓤 H (𝓣 .C) (𝓣 .Λ) code.function) (λ κs. (slice-vals, tt)) (λ κs. (shr-slice-tells (named 0) (κs .0) u8, tt))
       (λ κs qs bounds a g are. via 𝓤 _ (fst∗ 𝓤 _ (emp 𝓤)) (walk 𝓤 H A W mem run (κs .0) (qs .0) (a .0) (𝓣 .C) (𝓣 .Λ) (fmOf 𝓤 H (W .laws) 𝓣) known (are .0)))
@@ -140,4 +141,4 @@ new-spec 𝓤 H 𝓜 𝓖 𝓡 =
     entered 𝓤 H (tripleOf 𝓤 H (𝓖 .A) new.signature (new.spec 𝓤 H (𝓖 .A) (𝓜 .mem) (𝓡 .run)))
     (tables 𝓤 H 𝓜 𝓡 code.env .C) (tables 𝓤 H 𝓜 𝓡 code.env .Λ) #reader·new code.function (code.unfolded 𝓤 H 𝓜 𝓡)
     (new-meets 𝓤 H (𝓖 .A) (givenOf 𝓤 H 𝓜 𝓖) (𝓜 .mem) (𝓡 .run) (tablesOf 𝓤 H 𝓜 (tables 𝓤 H 𝓜 𝓡 code.env))
-    (cited 𝓤 H (BeginsAt 𝓤 H (𝓖 .A) (𝓜 .mem) (𝓡 .run)) 𝓜 𝓡 code.env #reader·begins-at begins-def.routine code.calls-reader·begins-at (begins-thm.met 𝓤 H 𝓜 𝓖 𝓡)))
+    (cited 𝓤 H (BeginsAt 𝓤 H (𝓖 .A) (𝓜 .mem) (𝓡 .run)) 𝓜 𝓡 code.env #reading·begins-at begins-def.routine code.calls-reading·begins-at (begins-thm.met 𝓤 H 𝓜 𝓖 𝓡)))

@@ -47,17 +47,17 @@ use denote.Triple.Walked.{says, Stays, stay-ref, walkOf, goes-ref, Walks, ends-a
 use denote.Triple.Clauses.{ensured, lasts}
 use Rattle.reader.specs.Reader.{readNext}
 use Rattle.reader.specs.declared.ItemReader.{ItemReader}
-use Rattle.reader.specs.declared.Read.{Read}
+use Rattle.reading.specs.declared.Read.{Read}
 use Rattle.reader.proofs.ItemReader as T
 use Rattle.reader.proofs.ItemReader.Laws as T′
-use Rattle.reader.proofs.Read as S
-use Rattle.reader.proofs.Read.Laws as S′
-use Rattle.reader.proofs.Handed as F
-use Rattle.reader.proofs.Handed.Laws as F′
-use Rattle.reader.proofs.next_from as read
-use Rattle.reader.proofs.next_from.Symbol as read-def
-use Rattle.reader.proofs.next_from.Symbol.{name as #reader·next-from}
-use Rattle.reader.proofs.next_from.Met as read-thm
+use Rattle.reading.proofs.Read as S
+use Rattle.reading.proofs.Read.Laws as S′
+use Rattle.reading.proofs.Handed as F
+use Rattle.reading.proofs.Handed.Laws as F′
+use Rattle.reading.proofs.next_from as read
+use Rattle.reading.proofs.next_from.Symbol as read-def
+use Rattle.reading.proofs.next_from.Symbol.{name as #reading·next-from}
+use Rattle.reading.proofs.next_from.Met as read-thm
 use Rattle.reader.proofs.ItemReader.next.Key.{name as #reader·next}
 use Rattle.reader.proofs.ItemReader.next as next
 use Rattle.reader.proofs.ItemReader.next.Statement as stated
@@ -162,7 +162,7 @@ module _ {M : Type 1} (𝓤 : URA M) (H : Heap 𝓤) (A : Atoms 𝓤) (W : Given
       move ! (2 ∷ 3 ∷ []) $ join ! $ frame ! $ feqI ! (List Val) (vptr b o ∷ []) (vptr b o ∷ []) refl $ fjoin3 ! $ nothing ! $ move ! (1 ∷ 0 ∷ []) $ fjoin ! $
       owned ! F.the-row (Is F.the-row) (EL.makes F.the-type F′.the-plain 𝓤 H A) (r .handed) _ is $ move ! (1 ∷ 0 ∷ []) $ done !
 
-  module _ (C : Calls 𝓤 H) (Λ : Loops 𝓤 H) (fm : FmC 𝓤 H (W .laws) C) (known : Triple 𝓤 (C #reader·next-from) (NextFrom 𝓤 H A at-mem run)) where
+  module _ (C : Calls 𝓤 H) (Λ : Loops 𝓤 H) (fm : FmC 𝓤 H (W .laws) C) (known : Triple 𝓤 (C #reading·next-from) (NextFrom 𝓤 H A at-mem run)) where
     -- the parts of what was read
     fields : (r : Read) (u : Val) → Is S.the-row r (u ∷ []) → Is F.the-row (r .handed) (EL.vals F.the-type F′.the-laws (r .handed)) × (r .next < 2 ^ 64) × (r .unread < 2 ^ 8)
     fields r u is = let fs = LL.owed S.the-type S′.the-laws r _ is in (fs .0, fs .1 .0 .1, fs .1 .1 .0 .1)
@@ -201,7 +201,7 @@ module _ {M : Type 1} (𝓤 : URA M) (H : Heap 𝓤) (A : Atoms 𝓤) (W : Given
         move ! (16 ∷ 17 ∷ []) $ free1 ! $ move ! (14 ∷ 15 ∷ []) $ free1 ! $ move ! (12 ∷ 13 ∷ []) $ free1 ! $ move ! (10 ∷ 11 ∷ []) $ free1 ! $ move ! (8 ∷ 9 ∷ []) $ free1 ! $ move ! (6 ∷ 7 ∷ []) $ free1 ! $ free0 ! $
         keep ! (0 ∷ 1 ∷ 2 ∷ 4 ∷ []) $ by ! (exits r _ e (fields r u is .0))))))))))))))
 
-module _ {M : Type 1} (𝓤 : URA M) (H : Heap 𝓤) (A : Atoms 𝓤) (W : Given 𝓤 H A) (mem : Memory → SProp 𝓤) (run : Routine → Fun 𝓤) (𝓣 : Tables 𝓤 H) (known : Triple 𝓤 (𝓣 .C #reader·next-from) (NextFrom 𝓤 H A mem run)) where
+module _ {M : Type 1} (𝓤 : URA M) (H : Heap 𝓤) (A : Atoms 𝓤) (W : Given 𝓤 H A) (mem : Memory → SProp 𝓤) (run : Routine → Fun 𝓤) (𝓣 : Tables 𝓤 H) (known : Triple 𝓤 (𝓣 .C #reading·next-from) (NextFrom 𝓤 H A mem run)) where
   next-walks : Walks 𝓤 H A next.ended stayed (WpFn 𝓤 H (𝓣 .C) (𝓣 .Λ) code.function) (next.clauses 𝓤 H A mem run)
   next-walks = walked 𝓤 H A next.ended stayed (next.clauses 𝓤 H A mem run) (WpFn 𝓤 H (𝓣 .C) (𝓣 .Λ) code.function) (λ κs. (ptr-vals, tt)) (λ κs. (mut-tells (named 0) (κs .0) (T.the-row (namedLft 2 1 tt κs)), tt))
       (λ κs qs bounds a _ are. via 𝓤 _ (fst∗ 𝓤 _ (emp 𝓤)) (walk 𝓤 H A W mem run (κs .0) (κs .1 .0) (qs .0) (qs .1 .0) bounds (a .0 .ptr .0) (a .0 .ptr .1) (a .0 .name) (a .0 .now) (𝓣 .C) (𝓣 .Λ) (fmOf 𝓤 H (W .laws) 𝓣) known))
@@ -215,4 +215,4 @@ next-spec 𝓤 H 𝓜 𝓖 𝓡 =
     entered 𝓤 H (tripleOf 𝓤 H (𝓖 .A) next.signature (next.spec 𝓤 H (𝓖 .A) (𝓜 .mem) (𝓡 .run)))
     (tables 𝓤 H 𝓜 𝓡 code.env .C) (tables 𝓤 H 𝓜 𝓡 code.env .Λ) #reader·next code.function (code.unfolded 𝓤 H 𝓜 𝓡)
     (next-meets 𝓤 H (𝓖 .A) (givenOf 𝓤 H 𝓜 𝓖) (𝓜 .mem) (𝓡 .run) (tablesOf 𝓤 H 𝓜 (tables 𝓤 H 𝓜 𝓡 code.env))
-    (cited 𝓤 H (NextFrom 𝓤 H (𝓖 .A) (𝓜 .mem) (𝓡 .run)) 𝓜 𝓡 code.env #reader·next-from read-def.routine code.calls-reader·next-from (read-thm.met 𝓤 H 𝓜 𝓖 𝓡)))
+    (cited 𝓤 H (NextFrom 𝓤 H (𝓖 .A) (𝓜 .mem) (𝓡 .run)) 𝓜 𝓡 code.env #reading·next-from read-def.routine code.calls-reading·next-from (read-thm.met 𝓤 H 𝓜 𝓖 𝓡)))

@@ -1,9 +1,9 @@
 -- `reader::next_from` meets its contract: the test that led to a return decides the definition's. Assumes nothing.
 use borrow.Author.Tests.{eq-eqb, ne-eqb}
-use Rattle.reader.specs.Reader.{readOn}
+use Rattle.reading.specs.Reading.{readOn}
 use borrow.Author.Needs.{needs}
-use Rattle.reader.proofs.next_from.Statement.{statement}
-use Rattle.reader.proofs.next_from.Tie as tie
+use Rattle.reading.proofs.next_from.Statement.{statement}
+use Rattle.reading.proofs.next_from.Tie as tie
 
 returns : tie.Need-returns
 unfolding readOn

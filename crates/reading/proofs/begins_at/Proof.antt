@@ -1,9 +1,9 @@
 -- `reader::begins_at` meets its contract: each test that led to a return decides the definition's. Assumes nothing.
 use borrow.Author.Tests.{eq-eqb, ne-eqb}
-use Rattle.reader.specs.Reader.{hasNone, beginsAt}
+use Rattle.reading.specs.Reading.{hasNone, beginsAt}
 use borrow.Author.Needs.{needs}
-use Rattle.reader.proofs.begins_at.Statement.{statement}
-use Rattle.reader.proofs.begins_at.Tie as tie
+use Rattle.reading.proofs.begins_at.Statement.{statement}
+use Rattle.reading.proofs.begins_at.Tie as tie
 
 returns : tie.Need-returns
 unfolding beginsAt hasNone

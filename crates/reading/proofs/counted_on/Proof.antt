@@ -3,9 +3,9 @@ use Prim.Native.Nat.{_+_}
 use native.Mathlib.Omega.{arith}
 use borrow.Author.Tests.{le-leb, lt-leb}
 use borrow.Author.Needs.{needs}
-use Rattle.reader.specs.Reader.{countedOn}
-use Rattle.reader.proofs.counted_on.Statement.{statement}
-use Rattle.reader.proofs.counted_on.Tie as tie
+use Rattle.reading.specs.Reading.{countedOn}
+use Rattle.reading.proofs.counted_on.Statement.{statement}
+use Rattle.reading.proofs.counted_on.Tie as tie
 
 returns : tie.Need-returns
 unfolding countedOn

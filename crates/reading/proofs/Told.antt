@@ -10,8 +10,8 @@ use Rattle.word.proofs.Bytes.{part-byte, le-part, be-part}
 use Rattle.entry.specs.Fields.{entryAt, spanOf, keyOf}
 use Rattle.page.specs.Walk.{isItem, walk, headerOf}
 use Rattle.page.proofs.Walking.{item-span, walk-past, walk-item}
-use Rattle.reader.specs.declared.Handed.the-variants.{Item}
-use Rattle.reader.specs.Reader.{readOf}
+use Rattle.reading.specs.declared.Handed.the-variants.{Item}
+use Rattle.reading.specs.Reading.{readOf}
 
 module _ (t : List ℕ) (at n : ℕ) (h : 1 ≤ n) where
   byte : (k : ℕ) → k < 32 → getD (part t at (n * 32)) k 0 ≡ getD (part t at 32) k 0

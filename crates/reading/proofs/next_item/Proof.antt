@@ -11,11 +11,11 @@ use Rattle.page.specs.Walk.{isItem, walk, headerOf, readingOf}
 use Rattle.page.specs.Unread.{passedFrom}
 use Rattle.page.proofs.Walking.{item-span, walk-skip, reading-none, reading-item, reading-span}
 use Rattle.page.proofs.Passed.{passed-past, passed-item, passed-skip}
-use Rattle.reader.specs.declared.Handed.the-variants.{Item as ItemOf, End}
-use Rattle.reader.specs.Reader.{countedOn, readOf}
-use Rattle.reader.proofs.Told.{read-item, read-end}
-use Rattle.reader.proofs.next_item.Statement.{statement}
-use Rattle.reader.proofs.next_item.Tie as tie
+use Rattle.reading.specs.declared.Handed.the-variants.{Item as ItemOf, End}
+use Rattle.reading.specs.Reading.{countedOn, readOf}
+use Rattle.reading.proofs.Told.{read-item, read-end}
+use Rattle.reading.proofs.next_item.Statement.{statement}
+use Rattle.reading.proofs.next_item.Tie as tie
 
 abbrev Inv-loop : tie.InvT-loop
 Inv-loop t s from unread i₀ passed₀ i passed = (walk s 126 i ≡ walk s 126 from) × (passed + passedFrom s 126 i ≡ passedFrom s 126 from) × (passed ≤ i)
