@@ -248,28 +248,48 @@ fn branches_of_stage(outcome: &Outcome) -> Branches {
 /// Between which two steps a call stopped: this alone shows their order.
 fn branches_of_stop(case: &Case, outcome: &Outcome) -> Branches {
     let next = outcome.list[outcome.steps];
-    let last = outcome.steps.checked_sub(1).map(|place| outcome.list[place]);
-    let Some(TaggedStep { stage, step: Step::Program { sector, word, .. } }) = last else {
+    let Some(last) = outcome.steps.checked_sub(1).map(|place| outcome.list[place]) else {
         return Branches::new();
     };
-    let Step::Program { sector: next_sector, word: next_word, .. } = next.step else {
+    let (Step::Program { sector, word, .. }, Step::Program { sector: next_sector, word: next_word, .. }) =
+        (last.step, next.step)
+    else {
         return Branches::new();
     };
-    let of_stage = |wanted: Stage| stage == wanted && next.stage == wanted;
-    let descends = sector == next_sector && word == next_word + 1;
+    let of_stage = |wanted: Stage| last.stage == wanted && next.stage == wanted;
+    let inside = last.marks_same_item(&next);
     let pages = scan(&case.image).pages;
     let keeps = kept_place(&pages).is_some_and(|kept| pages[kept].sector == next_sector);
     let marks = of_stage(Stage::ActiveOrder);
-    held(&[
+    let met = held(&[
         ((1..8).contains(&word), Branch::InitialiseStoppedInside),
         (word >= 16 && next_word >= 16, Branch::CopyStoppedInside),
         (word >= 16 && next_word < 16, Branch::CopyStoppedBeforeStates),
         (marks && !keeps && sector > next_sector, Branch::RecoveryStoppedAmongMarks),
         (marks && keeps, Branch::RecoveryStoppedBeforeKept),
-        (of_stage(Stage::Blobs) && descends, Branch::RecoveryStoppedInErasure),
-        (of_stage(Stage::Blobs) && !descends, Branch::RecoveryStoppedBetween3),
-        (of_stage(Stage::Duplicates) && !descends, Branch::RecoveryStoppedBetween4),
-        (stage == Stage::Blobs && next_word == 0, Branch::RecoveryStoppedBeforeFull),
+        (of_stage(Stage::Blobs) && !inside, Branch::RecoveryStoppedBetween3),
+        (of_stage(Stage::Duplicates) && !inside, Branch::RecoveryStoppedBetween4),
+        (last.stage == Stage::Blobs && next_word == 0, Branch::RecoveryStoppedBeforeFull),
+    ]);
+    &met | &branches_of_marks(&last, &next)
+}
+
+/// A stop behind a mark of a copy or an erasure.
+fn branches_of_marks(last: &TaggedStep, next: &TaggedStep) -> Branches {
+    let copies = |step: &TaggedStep| matches!(step.stage, Stage::Finish { .. } | Stage::Reclaim);
+    let (copy, reclaim) = (copies(last) && last.marked_word().is_some(), last.stage == Stage::Reclaim);
+    let inside = last.marks_same_item(next);
+    let one_word = inside && last.marked_word() == next.marked_word();
+    let full = matches!(next.step, Step::Program { word: 0, .. });
+    held(&[
+        (inside && copy && !reclaim, Branch::RecoveryStoppedInCopy),
+        (one_word && last.stage == Stage::Blobs, Branch::RecoveryStoppedInErasure3),
+        (one_word && last.stage == Stage::Duplicates, Branch::RecoveryStoppedInErasure4),
+        (inside && !one_word && !copy, Branch::RecoveryStoppedBetweenWords),
+        (one_word && copy, Branch::CopyStoppedInWord),
+        (inside && !one_word && copy, Branch::CopyStoppedBetweenWords),
+        (copy && !inside && !full, Branch::CopyStoppedBeforeNext),
+        (copy && full, Branch::CopyStoppedBeforeFull),
     ])
 }
 
@@ -317,6 +337,7 @@ fn branches_of_listing(case: &Case) -> Branches {
     let (outcome, text) = listing(&case.image);
     let shows = |word: &str| text.split_ascii_whitespace().any(|shown| shown == word);
     let counts = || text.lines().filter_map(|line| line.split_once("unread ").map(|(_, count)| count));
+    let made = |of: &[Branch]| of.iter().any(|branch| outcome.branches.contains(branch));
     let conditions = [
         (outcome.result == 0, Branch::ListingResult0),
         (outcome.result == 1, Branch::ListingResult1),
@@ -328,7 +349,9 @@ fn branches_of_listing(case: &Case) -> Branches {
         (shows("corrupt"), Branch::ListingCorrupt),
         (counts().any(|count| count == "0"), Branch::ListingUnreadNone),
         (counts().any(|count| count != "0"), Branch::ListingUnread),
-        (outcome.branches.contains(&Branch::BlobNumbersUnlike), Branch::ListingNumbersUnlike),
+        (made(&[Branch::BlobNumbersUnlike]), Branch::ListingNumbersUnlike),
+        (made(&[Branch::CopyInOneWord, Branch::CopyOverSeveralWords]), Branch::ListingCopyOfSeveral),
+        (made(&[Branch::EraseInOneWord, Branch::EraseOverSeveralWords]), Branch::ListingErasureOfSeveral),
     ];
     let mut met = &outcome.branches | &held(&conditions);
     if outcome.result == 0 {

@@ -22,6 +22,7 @@ pub mod mishaps;
 pub mod mutants;
 pub mod named;
 pub mod notes;
+pub mod other_marks;
 pub mod other_way;
 pub mod protocol;
 pub mod random;

@@ -13,8 +13,38 @@ use crate::other_way;
 use crate::reclaim::{most_points, Candidate};
 use crate::recover::{freeing_pages, judge_items, sequences_run_out};
 use crate::scan::{greatest, Found, Lists, Page};
-use crate::sector::{state, total, EntryState, State};
-use crate::steps::{Run, Stage};
+use crate::sector::{state, total, EntryState, State, ENTRIES};
+use crate::steps::{state_word, Run, Stage};
+
+/// The state words that some entries have their pairs in.
+fn words_of(entry: usize, span: usize) -> usize {
+    let word = |entry| state_word(entry, EntryState::Written).0;
+    word(entry + span - 1) - word(entry) + 1
+}
+
+/// A copy that was made, from entry `next` on.
+pub fn copy(run: &mut Run, next: usize, span: usize) {
+    let words = words_of(next, span);
+    let conditions = [
+        (next + span == ENTRIES, Branch::CopyUsesLastEntry),
+        (span > 1 && words == 1, Branch::CopyInOneWord),
+        (words > 1, Branch::CopyOverSeveralWords),
+        (words > 2, Branch::CopyOverWholeWord),
+    ];
+    run.met_each(&conditions);
+}
+
+/// An erasure that was made. `moves_no_bit`: one of the entries was Erased before.
+pub fn erasure(run: &mut Run, entry: usize, span: usize, moves_no_bit: bool) {
+    let words = words_of(entry, span);
+    let conditions = [
+        (span > 1 && words == 1, Branch::EraseInOneWord),
+        (words > 1, Branch::EraseOverSeveralWords),
+        (words > 2, Branch::EraseOverWholeWord),
+        (moves_no_bit, Branch::EraseMovesNoBit),
+    ];
+    run.met_each(&conditions);
+}
 
 /// Recovery's result 6 at its edges, and result 2 before it.
 pub fn sequences(run: &mut Run, lists: &Lists, too_few_records: bool) {

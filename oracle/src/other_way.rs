@@ -12,7 +12,7 @@ use crate::recover::stages;
 use crate::scan::{scan, Found, Lists, Page};
 use crate::sector::{entry_state, free, number, state, total, EntryState, State, ENTRIES, SECTOR_BYTES};
 use crate::slip::{slipped, switched_on, Slip};
-use crate::steps::{sector_of, state_words, Run, Stage, Step};
+use crate::steps::{sector_of, Run, Stage, Step};
 
 /// Blank by less than all bytes; not without these slips.
 pub fn blank(sector: &[u8]) -> bool {
@@ -85,18 +85,6 @@ pub fn count_unread(before: &[u8], after: &[u8], records: &mut [Option<Record>])
             record.unread = items::unread(sector_of(before, sector));
         }
     }
-}
-
-/// State words that give each entry of a copied span the state that it had on the source.
-pub fn state_words_of_source(source: &[u8], item: &Item, next: usize) -> Vec<(usize, u32)> {
-    let mut words = BTreeMap::new();
-    for place in 0..item.span() {
-        let state = entry_state(source, item.entry + place);
-        for (word, value) in state_words(next + place, 1, state) {
-            *words.entry(word).or_insert(u32::MAX) &= value;
-        }
-    }
-    words.into_iter().collect()
 }
 
 /// The first Active page that is a copy of the source, else the first Active page.

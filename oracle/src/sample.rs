@@ -28,7 +28,7 @@ type Branches = BTreeSet<Branch>;
 
 /// What a case is worth having for, a bit each: branches, and slips that it catches.
 #[derive(Clone, Copy, Default, PartialEq, Eq, PartialOrd, Ord)]
-struct Rows([u128; 3]);
+struct Rows([u128; 4]);
 
 impl Rows {
     fn of_branches(case: &Case) -> Rows {
@@ -43,7 +43,7 @@ impl Rows {
     fn of_slips(case: &Case) -> Rows {
         let mut rows = Rows::default();
         if case.operation == Operation::Recover {
-            caught_by(case).into_iter().for_each(|slip| rows.0[2] |= 1 << slip as u32);
+            caught_by(case).into_iter().for_each(|slip| rows.0[3] |= 1 << slip as u32);
         }
         rows
     }

@@ -1,21 +1,24 @@
 //! The flash model: steps, the list that a call's rules give, and the allowance.
 
 use std::collections::{BTreeMap, BTreeSet};
+use std::ops::Range;
 
 use crate::branch::Branch;
 use crate::items::{items, Item};
-use crate::other_way;
+use crate::notes;
+use crate::other_marks;
 use crate::sector::{
-    blank, number, page_header, EntryState, ACTIVE_WORD, ENTRIES, ENTRY_BYTES, FREEING_WORD, FULL_WORD,
-    SECTOR_BYTES,
+    blank, entry_state, number, page_header, EntryState, ACTIVE_WORD, ENTRIES, ENTRY_BYTES, FREEING_WORD,
+    FULL_WORD, SECTOR_BYTES,
 };
 use crate::slip::{slipped, Slip};
 
 const WORD_BYTES: usize = 4;
 const HEADER_WORDS: usize = 8;
+const STATE_WORDS: Range<usize> = 8..16;
 const WORDS_OF_ENTRY: usize = ENTRY_BYTES / WORD_BYTES;
 const FIRST_ENTRY_WORD: usize = 16;
-const PAIRS_OF_WORD: usize = 16;
+pub const PAIRS_OF_WORD: usize = 16;
 
 #[derive(Clone, Copy, PartialEq, Eq, Debug)]
 pub enum Step {
@@ -37,7 +40,25 @@ pub enum Stage {
 #[derive(Clone, Copy, PartialEq, Eq, Debug)]
 pub struct TaggedStep {
     pub stage: Stage,
+    /// Which copy or erasure of an item it belongs to, by their numbers in the list; None where it belongs to none.
+    pub of_item: Option<usize>,
     pub step: Step,
+}
+
+impl TaggedStep {
+    /// The sector and the word of a mark: an entry-state word programmed.
+    pub fn marked_word(&self) -> Option<(usize, usize)> {
+        match self.step {
+            Step::Program { sector, word, .. } if STATE_WORDS.contains(&word) => Some((sector, word)),
+            _ => None,
+        }
+    }
+
+    /// Whether both are marks of one copy or erasure.
+    pub fn marks_same_item(&self, other: &TaggedStep) -> bool {
+        let marks = self.marked_word().is_some() && other.marked_word().is_some();
+        marks && self.of_item == other.of_item
+    }
 }
 
 /// "Programming a word replaces it by its AND with the new word. Erasing sets a sector to 0xFF."
@@ -61,21 +82,11 @@ pub fn sector_of_mut(image: &mut [u8], sector: usize) -> &mut [u8] {
     &mut image[SECTOR_BYTES * sector..SECTOR_BYTES * (sector + 1)]
 }
 
-/// "each entry-state word that covers its entries", ascending: the word's number and a value that has
-/// `state` in the pairs of those entries and ones elsewhere.
-pub fn state_words(entry: usize, span: usize, state: EntryState) -> Vec<(usize, u32)> {
-    let first = entry / PAIRS_OF_WORD;
-    let last = (entry + span - 1) / PAIRS_OF_WORD;
-    let value_of = |word: usize| {
-        let mut value = u32::MAX;
-        for pair in 0..PAIRS_OF_WORD {
-            if (entry..entry + span).contains(&(PAIRS_OF_WORD * word + pair)) {
-                value &= !(3 << (2 * pair)) | (state as u32) << (2 * pair);
-            }
-        }
-        value
-    };
-    (first..=last).map(|word| (HEADER_WORDS + word, value_of(word))).collect()
+/// Document 02, No. 4: "one entry a step, [..] each clearing only that entry's own bits". The number of the word and
+/// a value that has `state` in the entry's pair and ones elsewhere.
+pub fn state_word(entry: usize, state: EntryState) -> (usize, u32) {
+    let shift = 2 * (entry % PAIRS_OF_WORD);
+    (STATE_WORDS.start + entry / PAIRS_OF_WORD, !(3 << shift) | (state as u32) << shift)
 }
 
 /// The list of steps under way, on a scratch copy of the image: each rule reads the image that the steps
@@ -85,6 +96,10 @@ pub struct Run {
     pub image: Vec<u8>,
     pub list: Vec<TaggedStep>,
     pub stage: Stage,
+    /// The copies and erasures of items so far.
+    items: usize,
+    /// The one that is under way.
+    of_item: Option<usize>,
     /// Each branch met, with the number of steps before it.
     branches: BTreeMap<Branch, usize>,
     /// Branches that only a call which stops there meets, with the number of steps before.
@@ -119,7 +134,7 @@ impl Run {
     /// "Each is one step, counted even if no bit moves."
     fn step(&mut self, step: Step) {
         apply(&mut self.image, step);
-        self.list.push(TaggedStep { stage: self.stage, step });
+        self.list.push(TaggedStep { stage: self.stage, of_item: self.of_item, step });
     }
 
     fn program(&mut self, sector: usize, word: usize, value: u32) {
@@ -158,30 +173,29 @@ impl Run {
         self.program(sector, 0, ACTIVE_WORD);
     }
 
+    /// The steps of one copy or erasure of an item.
+    fn program_item(&mut self, sector: usize, words: Vec<(usize, u32)>) {
+        self.of_item = Some(self.items);
+        words.into_iter().for_each(|(word, value)| self.program(sector, word, value));
+        self.of_item = None;
+        self.items += 1;
+    }
+
     /// "An item is copied into a part of the target sector that starts at the next entry. All its words,
-    /// ascending; then each entry-state word that covers its entries, ascending, set Written. If entry 125
-    /// is now used, program the state Full."
+    /// ascending; then" its entry states, set Written: document 02, No. 4: "Mark entry states one entry a step,
+    /// ascending". "If entry 125 is now used, program the state Full."
     pub fn copy_item(&mut self, source: usize, item: &Item, target: usize, next: usize) {
         let words = WORDS_OF_ENTRY * item.span();
         let from = FIRST_ENTRY_WORD + WORDS_OF_ENTRY * item.entry;
         let to = FIRST_ENTRY_WORD + WORDS_OF_ENTRY * next;
         let value_of = |word: usize| number(self.sector(source), WORD_BYTES * (from + word));
         let bytes: Vec<(usize, u32)> = (0..words).map(|word| (to + word, value_of(word))).collect();
-        let mut states = state_words(next, item.span(), EntryState::Written);
-        if slipped(Slip::CopyKeepsPayloadStates) {
-            states = other_way::state_words_of_source(self.sector(source), item, next);
-        }
-        if slipped(Slip::CopyStatesDescending) {
-            states.reverse();
-        }
-        let states_first = slipped(Slip::CopyStatesBeforeBytes);
-        for (word, value) in if states_first { [states, bytes] } else { [bytes, states] }.concat() {
-            self.program(target, word, value);
-        }
-        if next + item.span() == ENTRIES {
-            self.met(Branch::CopyUsesLastEntry);
-            self.mark_full(target);
-        }
+        let end = next + item.span();
+        let marks = (next..end).map(|entry| state_word(entry, EntryState::Written)).collect();
+        let marks = other_marks::of_copy(self.sector(source), item, next, marks);
+        let full = if end == ENTRIES { vec![(0, FULL_WORD)] } else { Vec::new() };
+        self.program_item(target, other_marks::order_of_copy(bytes, marks, full));
+        notes::copy(self, next, item.span());
     }
 
     /// "copy the source's items in walk order"
@@ -195,17 +209,16 @@ impl Run {
         }
     }
 
-    /// "Erase an item: the state words covering its span, descending, set Erased, so the header's word is
-    /// last."
+    /// Erase an item, "set Erased, so the header's [..] is last". Document 02, No. 4: "erase them one a step,
+    /// descending".
     pub fn erase_entries(&mut self, sector: usize, entry: usize, span: usize) {
-        let mut words = state_words(entry, span, EntryState::Erased);
-        self.met_if(words.len() > 1, Branch::EraseOverSeveralWords);
-        if !slipped(Slip::ErasureStatesAscending) {
-            words.reverse();
-        }
-        for (word, value) in words {
-            self.program(sector, word, value);
-        }
+        let marks =
+            (entry..entry + span).rev().map(|entry| state_word(entry, EntryState::Erased)).collect();
+        let marks = other_marks::of_erasure(self.sector(sector), entry, span, marks);
+        let erased = |entry| entry_state(self.sector(sector), entry) == EntryState::Erased;
+        let moves_no_bit = (entry..entry + span).any(erased);
+        self.program_item(sector, marks);
+        notes::erasure(self, entry, span, moves_no_bit);
     }
 }
 
@@ -240,6 +253,8 @@ pub fn call(
         image: image.to_vec(),
         list: Vec::new(),
         stage,
+        items: 0,
+        of_item: None,
         branches: BTreeMap::new(),
         stops: Vec::new(),
     };
