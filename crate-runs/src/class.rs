@@ -15,6 +15,8 @@ use model::sector::{
 };
 use model::steps::{apply, sector_of, Outcome, Stage, Step};
 
+use crate::words;
+
 /// Why a case is outside.
 pub type Outside = &'static str;
 
@@ -203,14 +205,18 @@ fn indices_alone_wrong(version: &Version) -> bool {
     })
 }
 
+/// Document 02, No. 4: a stop that the crate, which marks by words, cannot make.
+pub const INSIDE_A_MARKING: Outside = "stopped inside a word of an item's marks";
+
 /// A stopped call agrees where both have made the same steps: in stages 1 and 2 and in reclaim, but not among
-/// the eight header words, whose order is not the crate's.
+/// the eight header words, whose order is not the crate's, and not inside a word of an item's marks.
 fn cut_agrees(outcome: &Outcome) -> Judged {
     let Some(stage) = outcome.stopped_in() else { return Ok(()) };
     unless(!early(stage) && stage != Stage::Reclaim, "stopped in stage 3 or 4")?;
     let header_word = |step: Step| matches!(step, Step::Program { word: 1..=7, .. });
     let before = outcome.steps.checked_sub(1).map(|last| outcome.list[last].step);
-    unless(before.is_some_and(header_word), "stopped among the header words")
+    unless(before.is_some_and(header_word), "stopped among the header words")?;
+    unless(words::count(&outcome.list, outcome.steps).is_none(), INSIDE_A_MARKING)
 }
 
 /// The items of an image, without their places, in order: what a store holds.

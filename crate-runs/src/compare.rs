@@ -7,8 +7,10 @@ use std::thread;
 use model::protocol::{Case, Operation, RECORD_BYTES};
 use model::steps::Outcome;
 
+use crate::class::model_outcome;
 use crate::crate_call::{run, CrateOutcome};
-use crate::draw::case_of;
+use crate::draw::{case_of, Drawn};
+use crate::words;
 
 /// Cases that one start of the program answers.
 const BATCH: u64 = 256;
@@ -19,14 +21,26 @@ struct Tally {
     cases: u64,
     with_steps: u64,
     stopped: u64,
+    /// The model's, and how many the crate makes of them.
     steps: u64,
+    steps_by_words: u64,
+    /// Cases that have more steps than the crate makes of them.
+    marked_by_entries: u64,
+    /// Left out: drawn cases that stop inside a word of an item's marks.
+    inside_marking: u64,
     /// How many cases agree with the other type of the free list too.
     ordered: u64,
 }
 
-/// Result, number of steps and image.
+/// The crate's run beside the model's answer. None where the crate cannot stop where the model does.
+pub fn run_beside(case: &Case, outcome: &Outcome, ordered: bool) -> Option<CrateOutcome> {
+    Some(run(case.operation, &case.image, words::allowance(case, outcome)?, ordered))
+}
+
+/// Result, number of steps in the crate's count, and image.
 pub fn agree(outcome: &Outcome, of_crate: &CrateOutcome) -> bool {
-    (outcome.result, outcome.steps) == (of_crate.end.number(), of_crate.steps.len())
+    outcome.result == of_crate.end.number()
+        && words::count(&outcome.list, outcome.steps) == Some(of_crate.steps.len())
         && outcome.image == of_crate.image
 }
 
@@ -61,13 +75,23 @@ fn answers_of(program: &[&str], input: Vec<u8>) -> io::Result<Vec<u8>> {
     Ok(output)
 }
 
+/// The crate's result and image, and its number of steps in the model's count.
+fn answer_of_crate(case: &Case) -> Option<(u8, u64, Vec<u8>)> {
+    let outcome = model_outcome(case);
+    let of_crate = run_beside(case, &outcome, false)?;
+    let steps = *words::ends(&outcome.list).get(of_crate.steps.len())?;
+    Some((of_crate.end.number(), steps as u64, of_crate.image))
+}
+
 /// The first of the cases whose given answer is not the crate's. Answers left over stand at the end.
 fn first_unlike(cases: &[Case], mut given: &[u8]) -> Option<usize> {
     for (place, case) in cases.iter().enumerate() {
-        let of_crate = run(case.operation, &case.image, case.allowance, false);
-        let wanted = (of_crate.end.number(), of_crate.steps.len() as u64, &of_crate.image[..]);
-        match take_answer(given) {
-            Some((answer, rest)) if answer == wanted => given = rest,
+        match (answer_of_crate(case), take_answer(given)) {
+            (Some((result, steps, image)), Some((answer, rest)))
+                if answer == (result, steps, &image[..]) =>
+            {
+                given = rest
+            }
             _ => return Some(place),
         }
     }
@@ -96,13 +120,17 @@ fn first_unlike_of(program: &[&str], cases: &[Case]) -> io::Result<Option<usize>
     Ok(first_unlike(cases, &answers_of(program, input)?))
 }
 
-fn count(tally: &mut Tally, case: &Case, outcome: &Outcome) {
-    let ordered = run(case.operation, &case.image, case.allowance, true);
+fn count(tally: &mut Tally, drawn: &Drawn, of_crate: &CrateOutcome) {
+    let Drawn { case, outcome, inside_marking } = drawn;
+    let ordered = run_beside(case, outcome, true);
     tally.cases += 1;
     tally.steps += outcome.steps as u64;
+    tally.steps_by_words += of_crate.steps.len() as u64;
+    tally.marked_by_entries += u64::from(outcome.steps > of_crate.steps.len());
     tally.with_steps += u64::from(outcome.steps > 0);
     tally.stopped += u64::from(outcome.result == 7);
-    tally.ordered += u64::from(agree(outcome, &ordered));
+    tally.ordered += u64::from(ordered.is_some_and(|ordered| agree(outcome, &ordered)));
+    tally.inside_marking += inside_marking;
 }
 
 fn report(seed: u64, number: u64, case: &Case) -> io::Result<()> {
@@ -114,6 +142,18 @@ fn report(seed: u64, number: u64, case: &Case) -> io::Result<()> {
     Ok(())
 }
 
+fn tell(tally: &Tally, title: &str, beside_program: bool) {
+    let Tally { cases, with_steps, stopped, steps, ordered, .. } = tally;
+    let Tally { steps_by_words, marked_by_entries, inside_marking, .. } = tally;
+    let beside = if beside_program { "the model and the program" } else { "the model" };
+    println!("{title}: {cases} of {cases} cases agree with {beside} in result, steps and image;");
+    println!("  {with_steps} with steps, {steps} in all, of which the crate makes {steps_by_words}, marking by words;");
+    println!("  in {marked_by_entries} cases the two numbers differ; {stopped} stopped, besides {inside_marking}");
+    println!(
+        "  left out that stop inside a word of an item's marks; with the other free list {ordered} agree"
+    );
+}
+
 /// Draws cases of the class and compares; `program` is a program with its arguments, or nothing. The answer:
 /// whether all agree.
 pub fn compare(operation: Operation, total: u64, seed: u64, program: &[&str]) -> io::Result<bool> {
@@ -121,23 +161,21 @@ pub fn compare(operation: Operation, total: u64, seed: u64, program: &[&str]) ->
     for first in (0..total).step_by(BATCH as usize) {
         let drawn: Vec<_> =
             (first..total.min(first + BATCH)).map(|number| case_of(operation, seed, number)).collect();
-        for (place, (case, outcome)) in drawn.iter().enumerate() {
-            if !agree(outcome, &run(operation, &case.image, case.allowance, false)) {
-                report(seed, first + place as u64, case)?;
+        for (place, drawn) in drawn.iter().enumerate() {
+            let of_crate = run_beside(&drawn.case, &drawn.outcome, false);
+            let Some(of_crate) = of_crate.filter(|of_crate| agree(&drawn.outcome, of_crate)) else {
+                report(seed, first + place as u64, &drawn.case)?;
                 return Ok(false);
-            }
-            count(&mut tally, case, outcome);
+            };
+            count(&mut tally, drawn, &of_crate);
         }
-        let cases: Vec<Case> = drawn.into_iter().map(|(case, _)| case).collect();
+        let cases: Vec<Case> = drawn.into_iter().map(|drawn| drawn.case).collect();
         if let Some(place) = first_unlike_of(program, &cases)? {
             println!("the program answers otherwise than the crate");
             report(seed, first + place as u64, &cases[place.min(cases.len() - 1)])?;
             return Ok(false);
         }
     }
-    let Tally { cases, with_steps, stopped, steps, ordered } = tally;
-    let beside = if program.is_empty() { "the model" } else { "the model and the program" };
-    println!("{operation:?}, seed {seed}: {cases} of {cases} cases agree with {beside} in result, steps and image;");
-    println!("  {with_steps} with steps ({steps} in all), {stopped} stopped; with the other free list {ordered} agree");
+    tell(&tally, &format!("{operation:?}, seed {seed}"), !program.is_empty());
     Ok(true)
 }

@@ -9,6 +9,7 @@ use model::sector::SECTOR_BYTES;
 use crate::class::{in_class, model_outcome, recovers_alike};
 use crate::crate_call::{run, End};
 use crate::draw::draw_store;
+use crate::words;
 
 /// A store of the class that reclaim makes steps on.
 fn draw_reclaim(random: &mut Random) -> Case {
@@ -24,10 +25,12 @@ fn draw_reclaim(random: &mut Random) -> Case {
 /// What a reclaim left, as a case of recovery.
 fn after_cut(random: &mut Random) -> Case {
     let reclaim = draw_reclaim(random);
-    let allowance = random.below(model_outcome(&reclaim).steps + 1) as u64;
+    let list = model_outcome(&reclaim).list;
     let image = if random.once_in(2) {
+        let allowance = random.below(words::ends(&list).len()) as u64;
         run(Operation::Reclaim, &reclaim.image, allowance, false).image
     } else {
+        let allowance = random.below(list.len() + 1) as u64;
         model_outcome(&Case { allowance, ..reclaim }).image
     };
     let records = (image.len() / SECTOR_BYTES) as u32;
@@ -53,10 +56,10 @@ pub fn compare(total: u64, seed: u64) -> bool {
             return false;
         }
         alike += 1;
-        same_steps += u64::from(of_crate.steps.len() == outcome.steps);
+        same_steps += u64::from(words::count(&outcome.list, outcome.steps) == Some(of_crate.steps.len()));
     }
     println!("reclaims cut after any step, then recovered, seed {seed}: {alike} of {alike} same image,");
-    println!("  {same_steps} by the same number of steps; {} of {total} outside the class:", total - alike);
+    println!("  {same_steps} by the same number of steps, marks counted by words; {} of {total} outside the class:", total - alike);
     outside.iter().for_each(|(reason, count)| println!("  {count:>6} {reason}"));
     true
 }

@@ -8,6 +8,7 @@ use model::steps::{sector_of, Step};
 
 use crate::class::{held, model_outcome};
 use crate::crate_call::{run, CrateOutcome, End};
+use crate::words;
 
 mod finish;
 mod reading;
@@ -84,12 +85,13 @@ fn miscounts(of_crate: &CrateOutcome) -> String {
     of_crate.counted.iter().filter_map(told).collect()
 }
 
-/// One line a case: what document 01 gives, what the crate does, what is alike.
+/// One line a case: what document 01 gives, what the crate does, what is alike. Where marks of one item in one word make
+/// the number greater, it is told by words too; steps are then compared by words.
 pub fn line(named: &Named) -> String {
     let outcome = model_outcome(&case_of(named));
     let of_crate = run(named.operation, &named.image, u64::MAX, false);
     let ordered = run(named.operation, &named.image, u64::MAX, true);
-    let ours = places(outcome.list.iter().map(|tagged| tagged.step));
+    let ours = places(words::by_words(&outcome.list).into_iter());
     let theirs = places(of_crate.steps.iter().copied());
     let alike = match (outcome.image == of_crate.image, ours == theirs) {
         (true, true) => "same steps",
@@ -102,8 +104,9 @@ pub fn line(named: &Named) -> String {
         if ordered.image == of_crate.image { "" } else { "; a heap for free_pages: another image" };
     let (result, steps) = (outcome.result, outcome.steps);
     let crate_steps = of_crate.steps.len();
+    let by_words = if ours.len() == steps { String::new() } else { format!(" ({} by words)", ours.len()) };
     format!(
-        "{:<34} document 01: result {result}, steps {steps}; crate: {}, steps {crate_steps}; {alike}{free_list}{}",
+        "{:<34} document 01: result {result}, steps {steps}{by_words}; crate: {}, steps {crate_steps}; {alike}{free_list}{}",
         named.name,
         ended(&of_crate),
         miscounts(&of_crate)

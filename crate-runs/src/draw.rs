@@ -10,7 +10,7 @@ use model::sector::{EntryState, ACTIVE_WORD, ENTRIES, FREEING_WORD, FULL_WORD, S
 use model::steps::{Outcome, Step};
 use model::writing::{index_data, key_of, Fields};
 
-use crate::class::in_class;
+use crate::class::{in_class, INSIDE_A_MARKING};
 use crate::page::{fields, value, with_payload, Page, CHUNK, INDEX};
 
 const NUMBERS: [u8; 8] = [0x01, 0x02, 0x04, 0x08, 0x11, 0x12, 0x14, 0x18];
@@ -251,13 +251,24 @@ fn draw_case(random: &mut Random, operation: Operation) -> Case {
     Case { allowance: steps as u64, ..whole }
 }
 
-/// The case of a number, with the model's answer: it depends on nothing but the operation, the seed and the number.
-pub fn case_of(operation: Operation, seed: u64, number: u64) -> (Case, Outcome) {
+/// A case of the class.
+pub struct Drawn {
+    pub case: Case,
+    /// The model's answer.
+    pub outcome: Outcome,
+    /// How many were drawn before it that are outside for one thing alone: they stop inside a word of an item's marks.
+    pub inside_marking: u64,
+}
+
+/// The case of a number: it depends on nothing but the operation, the seed and the number.
+pub fn case_of(operation: Operation, seed: u64, number: u64) -> Drawn {
     let mut random = Random::of_case(seed, number);
+    let mut inside_marking = 0;
     loop {
         let case = draw_case(&mut random, operation);
-        if let Ok(outcome) = in_class(&case) {
-            return (case, outcome);
+        match in_class(&case) {
+            Ok(outcome) => return Drawn { case, outcome, inside_marking },
+            Err(reason) => inside_marking += u64::from(reason == INSIDE_A_MARKING),
         }
     }
 }

@@ -12,3 +12,4 @@ pub mod page;
 pub mod record;
 pub mod stories;
 pub mod timed;
+pub mod words;

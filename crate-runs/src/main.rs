@@ -83,7 +83,7 @@ fn command(words: &[String]) -> Result<bool, Box<dyn Error>> {
         }
         ["draw", operation, count, seed] => {
             let (operation, count, seed) = (operation_of(operation)?, count.parse()?, seed.parse()?);
-            write_cases((0..count).map(|number| draw::case_of(operation, seed, number).0))?;
+            write_cases((0..count).map(|number| draw::case_of(operation, seed, number).case))?;
         }
         ["compare", operation, count, seed, ref program @ ..] => {
             let (count, seed) = (count.parse()?, seed.parse()?);

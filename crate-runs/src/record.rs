@@ -9,40 +9,39 @@ use std::path::Path;
 use model::branch::Branch;
 use model::protocol::{answer, Case, Operation};
 use model::sector::SECTOR_BYTES;
-use model::steps::Outcome;
 
-use crate::compare::agree;
-use crate::crate_call::run;
-use crate::draw::case_of;
+use crate::compare::{agree, run_beside};
+use crate::draw::{case_of, Drawn};
 
 /// Bytes of input that one operation's list may have.
-const MOST_BYTES: usize = 98_304;
+const MOST_BYTES: usize = 66_560;
 const DRAWN: u64 = 8_000;
 
 /// Draws cases of at most three sectors and takes, again and again, the one that meets the most new branches for
 /// its length; where none is new, the first of the shortest, until the room is used.
 fn choose(operation: Operation, seed: u64) -> (Vec<Case>, BTreeSet<Branch>) {
-    let short = |drawn: &(Case, Outcome)| drawn.0.image.len() <= 3 * SECTOR_BYTES && drawn.1.steps > 0;
+    let short = |drawn: &Drawn| drawn.case.image.len() <= 3 * SECTOR_BYTES && drawn.outcome.steps > 0;
     let mut left: Vec<_> =
         (0..DRAWN).map(|number| case_of(operation, seed, number)).filter(short).collect();
     let (mut chosen, mut met, mut bytes) = (Vec::new(), BTreeSet::<Branch>::new(), 0);
     while let Some(place) = best(&left, &met) {
-        let (case, outcome) = left.remove(place);
+        let Drawn { case, outcome, .. } = left.remove(place);
         bytes += 17 + case.image.len();
         if bytes > MOST_BYTES {
             break;
         }
-        let of_crate = run(operation, &case.image, case.allowance, false);
-        assert!(agree(&outcome, &of_crate), "a case of the class on which the crate differs");
+        let of_crate = run_beside(&case, &outcome, false);
+        let alike = of_crate.is_some_and(|of_crate| agree(&outcome, &of_crate));
+        assert!(alike, "a case of the class on which the crate differs");
         met.extend(outcome.branches);
         chosen.push(case);
     }
     (chosen, met)
 }
 
-fn best(left: &[(Case, Outcome)], met: &BTreeSet<Branch>) -> Option<usize> {
+fn best(left: &[Drawn], met: &BTreeSet<Branch>) -> Option<usize> {
     let worth = |place: usize| {
-        let (case, outcome) = &left[place];
+        let Drawn { case, outcome, .. } = &left[place];
         let new = outcome.branches.difference(met).count();
         (new * 16 * SECTOR_BYTES / case.image.len(), Reverse((case.image.len(), place)))
     };

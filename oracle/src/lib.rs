@@ -18,6 +18,8 @@ pub mod finish;
 pub mod generate;
 pub mod items;
 pub mod listing;
+#[cfg(test)]
+mod mark_tests;
 pub mod mishaps;
 pub mod mutants;
 pub mod named;

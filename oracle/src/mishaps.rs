@@ -6,25 +6,36 @@ use crate::recover::recover;
 use crate::sector::SECTOR_BYTES;
 use crate::steps::{Stage, Step, TaggedStep};
 
+/// A place about one of those after which something else begins; 0 where there is none.
+fn about(random: &mut Random, list: &[TaggedStep], begins: impl Fn(usize) -> bool) -> u64 {
+    let places: Vec<usize> = (1..list.len()).filter(|place| begins(*place)).collect();
+    let place = if places.is_empty() { 0 } else { random.choose(&places) };
+    (place + random.below(3)).saturating_sub(1) as u64
+}
+
 /// An allowance: past 32 bits, none, about the list's length, any; and most often about the steps that are
-/// not the many of a copy: changes of stage, marks, erasures.
+/// not the many of a copy: changes of stage, marks, erasures. Else about the first and the last mark of an item of
+/// several entries, or about the first mark in another word.
 pub fn draw_allowance(random: &mut Random, list: &[TaggedStep]) -> u64 {
     let length = list.len() as u64;
-    let turning = |place: &usize| {
-        let copies = matches!(list[*place].stage, Stage::Finish { .. } | Stage::Reclaim);
-        let weighty = matches!(list[*place].step, Step::Erase { .. } | Step::Program { word: 0, .. });
-        !copies || weighty || list[*place].stage != list[place - 1].stage
+    let turns = |place: usize| {
+        let copies = matches!(list[place].stage, Stage::Finish { .. } | Stage::Reclaim);
+        let weighty = matches!(list[place].step, Step::Erase { .. } | Step::Program { word: 0, .. });
+        !copies || weighty || list[place].stage != list[place - 1].stage
     };
+    let inside =
+        |place: usize| place > 0 && place < list.len() && list[place - 1].marks_same_item(&list[place]);
+    let ends = |place: usize| inside(place) && !(inside(place - 1) && inside(place + 1));
+    let changes_word =
+        |place: usize| inside(place) && list[place - 1].marked_word() != list[place].marked_word();
     match random.below(16) {
         0..=3 => random.choose(&[u64::MAX, u64::MAX, 1 << 32, (1 << 32) + 1, 1 << 63]),
         4 => length,
         5 => length.saturating_sub(1),
         6 => random.choose(&[0, 1, length + 1]),
-        7..=13 => {
-            let turns: Vec<usize> = (1..list.len()).filter(turning).collect();
-            let turn = if turns.is_empty() { 0 } else { random.choose(&turns) };
-            (turn + random.below(3)).saturating_sub(1) as u64
-        }
+        7..=11 => about(random, list, turns),
+        12 => about(random, list, ends),
+        13 => about(random, list, changes_word),
         _ => random.below(list.len() + 1) as u64,
     }
 }

@@ -54,9 +54,6 @@ pub fn active_non_copy_beside_freeing() -> Vec<u8> {
     [freeing, active, blank_sector()].concat()
 }
 
-/// The image that the listing program was first delivered with: a reclaim cut in the middle.
-const CUT_RECLAIM: &[u8] = include_bytes!("../../crates/list/data/cut_reclaim.image");
-
 /// An image that is refused for its length, with a page in it where one fits.
 fn of_length(length: usize) -> Vec<u8> {
     let mut image = page(FULL_WORD, 7, &[number_item("a", 1)]);
@@ -153,7 +150,7 @@ pub fn unread_uncovered() -> Vec<u8> {
 }
 
 /// "Run: lengths 0, 4,095, 4,096, 8,192, 65,536, 69,632; equal sequences; two Freeing pages; an Active
-/// non-copy beside a Freeing page", the listing example, and the listing program's first image. Recovery is run at
+/// non-copy beside a Freeing page", and the listing example. Recovery is run at
 /// all these lengths (65,536 is that of a generated case, see sample.rs), the others at one wrong length each, to
 /// keep the sample small.
 fn named_images(operation: Operation) -> Vec<Vec<u8>> {
@@ -170,7 +167,7 @@ fn named_images(operation: Operation) -> Vec<Vec<u8>> {
         ],
         Operation::Reclaim => vec![of_length(4096)],
         Operation::ItemReader => vec![of_length(0), of_length(4095)],
-        Operation::Listing => vec![of_length(4095), listing_example(), CUT_RECLAIM.to_vec()],
+        Operation::Listing => vec![of_length(4095), listing_example()],
     }
 }
 
@@ -206,7 +203,7 @@ pub fn named_cases(operation: Operation) -> Vec<Case> {
 }
 
 /// An item of 17 entries, so of two state words, whose payload reads as items; and an Erased entry.
-fn payload_like_items() -> Vec<u8> {
+pub fn payload_like_items() -> Vec<u8> {
     let payload = (0..16).map(|value| number_item("p", value));
     let header = Fields { kind: 0x21, span: 17, ..number_item("a", 1) };
     let mut full = page(FULL_WORD, 7, &[header].into_iter().chain(payload).collect::<Vec<_>>());
@@ -222,17 +219,17 @@ fn nearly_blank() -> Vec<u8> {
     [first, second].concat()
 }
 
-/// Cases for slips that the generated cases show seldom (slip.rs): a copy stopped between its two state words, and
-/// sectors that are Corrupt by one byte alone.
+/// Cases for slips that the generated cases show seldom (slip.rs): a copy stopped behind its first mark, a recovery
+/// stopped before it erases a copy, and sectors that are Corrupt by one byte alone.
 pub fn slip_cases(operation: Operation) -> Vec<Case> {
     let case = |allowance, image| Case { operation, allowance, records: 16, image };
     let marked_and_initialised = 1 + 8;
-    let words_and_one_of_states = 17 * 8 + 1;
+    let words_and_first_mark = 17 * 8 + 1;
     match operation {
         Operation::Reclaim => {
-            vec![case(marked_and_initialised + words_and_one_of_states, payload_like_items())]
+            vec![case(marked_and_initialised + words_and_first_mark, payload_like_items())]
         }
-        Operation::Recover => vec![case(u64::MAX, nearly_blank())],
+        Operation::Recover => vec![case(u64::MAX, nearly_blank()), case(0, torn_copy())],
         Operation::ItemReader | Operation::Listing => Vec::new(),
     }
 }

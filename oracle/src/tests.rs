@@ -201,13 +201,14 @@ fn blobs_by_their_chunk_indices() {
     assert_eq!(recovered(&long_blob("a", 129, 0)).steps, 130);
 }
 
-/// The listing program's image is the one that is made here. Its listing is worked out by hand.
+/// The listing program's image is the one that is made here. Its listing is worked out by hand: recovery erases an
+/// index, a chunk of 14 entries and a text of 3.
 #[test]
 fn the_worn_profile() {
     let image = include_bytes!("../../crates/list/data/worn_profile.image");
     assert!(worn_profile() == image);
     let lines = [
-        "sectors 5 result 0 steps 3",
+        "sectors 5 result 0 steps 18",
         "0 full 41 written 106 erased 20 empty 0 illegal 0 unread 0",
         "1 full 42 written 119 erased 7 empty 0 illegal 0 unread 30",
         "2 corrupt",
@@ -215,6 +216,14 @@ fn the_worn_profile() {
         "4 blank",
     ];
     assert_eq!(listing(image).1.lines().collect::<Vec<_>>(), lines);
+}
+
+/// The image that the listing program was first delivered with: a reclaim cut in the middle. All its items are of one
+/// entry, so that No. 4 of document 02 leaves the number of steps.
+#[test]
+fn the_cut_reclaim() {
+    let (_, text) = listing(include_bytes!("../../crates/list/data/cut_reclaim.image"));
+    assert_eq!(text.lines().next(), Some("sectors 5 result 0 steps 244"));
 }
 
 #[test]

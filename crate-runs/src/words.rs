@@ -1,0 +1,35 @@
+//! The crate marks an item by the words that cover it; document 02, No. 4, marks one entry a step. So the model's marks of one
+//! copy or erasure in one word are one step of the crate, and a stop among them is none that the crate can make.
+
+use model::protocol::Case;
+use model::steps::{Outcome, Step, TaggedStep};
+
+/// Whether the crate makes both in one step: marks of one item in one word. Marks of two items never are, nor is the
+/// state Full, which is no mark of an entry.
+fn in_one_step(last: &TaggedStep, next: &TaggedStep) -> bool {
+    last.marks_same_item(next) && last.marked_word() == next.marked_word()
+}
+
+/// After how many of the model's steps the crate has made 0, 1, 2 and so on of its own. The last is the whole list.
+pub fn ends(list: &[TaggedStep]) -> Vec<usize> {
+    let inside =
+        |place: &usize| *place > 0 && *place < list.len() && in_one_step(&list[place - 1], &list[*place]);
+    (0..=list.len()).filter(|place| !inside(place)).collect()
+}
+
+/// So many of the model's steps in the crate's count; None where they end inside a word of an item's marks.
+pub fn count(list: &[TaggedStep], steps: usize) -> Option<usize> {
+    ends(list).binary_search(&steps).ok()
+}
+
+/// The model's list, of each step of the crate's the last.
+pub fn by_words(list: &[TaggedStep]) -> Vec<Step> {
+    ends(list).into_iter().filter_map(|end| Some(list[end.checked_sub(1)?].step)).collect()
+}
+
+/// The allowance with which the crate is to come as far as the model, and with as much to spare. None where the model
+/// stops inside a word of an item's marks.
+pub fn allowance(case: &Case, outcome: &Outcome) -> Option<u64> {
+    let spare = case.allowance - outcome.steps as u64;
+    Some(count(&outcome.list, outcome.steps)? as u64 + if outcome.result == 7 { 0 } else { spare })
+}
