@@ -22,7 +22,9 @@ fn draw_key(random: &mut Random) -> Key {
     key_of(random.choose(&["a", "a\0b", "b", "c", "quarter", "hour", "tariff", "k0"]))
 }
 
+/// Now and then ten times as long, so that the item's entry states are in several words.
 fn draw_payload(random: &mut Random, most: usize) -> Vec<u8> {
+    let most = if random.once_in(8) { 10 * most } else { most };
     let mut payload = vec![0; random.below(most + 1)];
     random.fill(&mut payload);
     payload
@@ -213,11 +215,16 @@ pub fn draw_store(random: &mut Random, operation: Operation) -> Vec<u8> {
     pages.into_iter().flat_map(|page| page.bytes).collect()
 }
 
-/// The step after which the power goes: any, but most often one that ends something, so that little is torn.
+/// The step after which the power goes: any, but most often one that ends something, the last mark of an item too, so
+/// that little is torn.
 fn draw_cut(random: &mut Random, outcome: &Outcome) -> usize {
+    let last_mark = |place: usize| {
+        let goes_on = |next| outcome.list[place].marks_same_item(next);
+        outcome.list[place].marked_word().is_some() && !outcome.list.get(place + 1).is_some_and(goes_on)
+    };
     let ends = |place: &usize| match outcome.list[*place].step {
-        Step::Erase { .. } => true,
-        Step::Program { word, .. } => word == 0 || (8..16).contains(&word),
+        Step::Erase { .. } | Step::Program { word: 0, .. } => true,
+        _ => last_mark(*place),
     };
     let ended: Vec<usize> = (0..outcome.list.len()).filter(ends).collect();
     if ended.is_empty() || random.once_in(4) {

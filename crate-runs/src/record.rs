@@ -13,8 +13,10 @@ use model::sector::SECTOR_BYTES;
 use crate::compare::{agree, run_beside};
 use crate::draw::{case_of, Drawn};
 
-/// Bytes of input that one operation's list may have.
-const MOST_BYTES: usize = 66_560;
+/// Bytes of a case before its image.
+const HEAD_BYTES: usize = 17;
+/// Bytes of input that one operation's list may have: nine cases of two sectors.
+const MOST_BYTES: usize = 9 * (HEAD_BYTES + 2 * SECTOR_BYTES);
 const DRAWN: u64 = 8_000;
 
 /// Draws cases of at most three sectors and takes, again and again, the one that meets the most new branches for
@@ -26,10 +28,8 @@ fn choose(operation: Operation, seed: u64) -> (Vec<Case>, BTreeSet<Branch>) {
     let (mut chosen, mut met, mut bytes) = (Vec::new(), BTreeSet::<Branch>::new(), 0);
     while let Some(place) = best(&left, &met) {
         let Drawn { case, outcome, .. } = left.remove(place);
-        bytes += 17 + case.image.len();
-        if bytes > MOST_BYTES {
-            break;
-        }
+        bytes += HEAD_BYTES + case.image.len();
+        left.retain(|drawn| bytes + HEAD_BYTES + drawn.case.image.len() <= MOST_BYTES);
         let of_crate = run_beside(&case, &outcome, false);
         let alike = of_crate.is_some_and(|of_crate| agree(&outcome, &of_crate));
         assert!(alike, "a case of the class on which the crate differs");

@@ -5,12 +5,15 @@ use std::collections::{HashSet, VecDeque};
 use std::hash::{BuildHasherDefault, Hasher};
 use std::rc::Rc;
 
+use oracle::items::{items, Item};
+use oracle::reclaim::reclaim;
 use oracle::recover::recover;
-use oracle::sector::SECTOR_BYTES;
-use oracle::steps::Outcome;
+use oracle::sector::{number, SECTOR_BYTES};
+use oracle::steps::{sector_of, Outcome};
 
 use crate::calls::{Answer, Call, Calls, ENDED, STOPPED};
 use crate::contents::{contents, demanded, Contents};
+use crate::oddities::state_words;
 
 /// No list is as long: a page has 1,008 words of entries. A call that has not ended by then never ends.
 const TOO_LONG: u64 = 20_000;
@@ -54,6 +57,34 @@ pub struct Failure {
     pub image: Vec<u8>,
 }
 
+/// Items by the marks that a copy or an erasure of them takes.
+#[derive(Default)]
+pub struct Spans {
+    /// Of several entries.
+    pub several: u64,
+    /// Whose entries have their states in several words, and in three or more.
+    pub over_words: u64,
+    pub over_whole_word: u64,
+}
+
+impl Spans {
+    fn of(store: &[u8]) -> Spans {
+        let items: Vec<Item> = store.chunks(SECTOR_BYTES).flat_map(items).collect();
+        let count = |is: fn(&Item) -> bool| items.iter().filter(|item| is(item)).count() as u64;
+        Spans {
+            several: count(|item| item.span() > 1),
+            over_words: count(|item| state_words(item) > 1),
+            over_whole_word: count(|item| state_words(item) > 2),
+        }
+    }
+
+    fn add(&mut self, other: &Spans) {
+        self.several += other.several;
+        self.over_words += other.over_words;
+        self.over_whole_word += other.over_whole_word;
+    }
+}
+
 #[derive(Default)]
 pub struct Figures {
     pub reclaims: u64,
@@ -65,6 +96,7 @@ pub struct Figures {
     /// Items of the stores, and those that recovery leaves of them.
     pub items: u64,
     pub left: u64,
+    pub spans: Spans,
 }
 
 impl Figures {
@@ -74,6 +106,7 @@ impl Figures {
         self.ends += other.ends;
         self.items += other.items;
         self.left += other.left;
+        self.spans.add(&other.spans);
         for (cuts, count) in other.images.iter().enumerate() {
             self.count_images(cuts + 1, *count);
         }
@@ -85,9 +118,10 @@ impl Figures {
     }
 }
 
-/// The parts of that size that are not alike.
-fn unlike<'a>(before: &'a [u8], after: &'a [u8], size: usize) -> Vec<(&'a [u8], &'a [u8])> {
-    before.chunks(size).zip(after.chunks(size)).filter(|(before, after)| before != after).collect()
+/// The places of the parts of that size that are not alike.
+fn unlike(before: &[u8], after: &[u8], size: usize) -> Vec<usize> {
+    let parts = before.chunks(size).zip(after.chunks(size)).enumerate();
+    parts.filter(|(_, (before, after))| before != after).map(|(place, _)| place).collect()
 }
 
 /// "A step is one 4-byte word programmed or one sector erased": whether one step can make `after` of `before`.
@@ -95,18 +129,34 @@ fn unlike<'a>(before: &'a [u8], after: &'a [u8], size: usize) -> Vec<(&'a [u8], 
 fn is_one_step(before: &[u8], after: &[u8]) -> bool {
     match unlike(before, after, SECTOR_BYTES)[..] {
         [] => true,
-        [(before, after)] => after.iter().all(|byte| *byte == 0xFF) || is_one_word(before, after),
+        [sector] => {
+            let (before, after) = (sector_of(before, sector), sector_of(after, sector));
+            after.iter().all(|byte| *byte == 0xFF) || is_one_word(before, after)
+        }
         _ => false,
     }
 }
 
-/// Whether two sectors differ in one word, and that only by bits cleared. By lines first: most are alike.
+/// Whether two sectors differ in one word, and that only by bits cleared; in an entry-state word by those of one
+/// entry. By lines first: most are alike.
 fn is_one_word(before: &[u8], after: &[u8]) -> bool {
     const LINE: usize = 128;
-    let lines = unlike(before, after, LINE);
-    let words: Vec<_> = lines.into_iter().flat_map(|(before, after)| unlike(before, after, 4)).collect();
-    let only_clears = |before: &[u8], after: &[u8]| before.iter().zip(after).all(|(b, a)| b & a == *a);
-    matches!(words[..], [(before, after)] if only_clears(before, after))
+    const WORDS_OF_LINE: usize = LINE / 4;
+    let line_of = |line: usize| LINE * line..LINE * (line + 1);
+    let words_of = |line: usize| {
+        let words = unlike(&before[line_of(line)], &after[line_of(line)], 4);
+        words.into_iter().map(move |word| WORDS_OF_LINE * line + word)
+    };
+    let words: Vec<usize> = unlike(before, after, LINE).into_iter().flat_map(words_of).collect();
+    let [word] = words[..] else { return false };
+    let (old, new) = (number(before, 4 * word), number(after, 4 * word));
+    old & new == new && (!(8..16).contains(&word) || is_one_entry(old & !new))
+}
+
+/// Document 02, No. 4: "each clearing only that entry's own bits".
+fn is_one_entry(cleared: u32) -> bool {
+    let pair = cleared.trailing_zeros() / 2;
+    cleared & !(3 << (2 * pair)) == 0
 }
 
 struct Trial<'a> {
@@ -180,16 +230,17 @@ impl Trial<'_> {
         fault.map_or(Ok(()), |what| Err(Failure { what, cuts, image }))
     }
 
-    /// The calls under trial have to recover the store itself as the model does: a settled one by no step.
-    fn recovers_as(&mut self, model: &Outcome, store: &[u8]) -> Result<(), Failure> {
+    /// The calls under trial have to recover and to reclaim the store itself as the model does: a settled one is
+    /// recovered by no step.
+    fn does_as(&mut self, call: Call, model: &Outcome, store: &[u8]) -> Result<(), Failure> {
         let mut image = store.to_vec();
-        let answer = self.make(Call::Recover, &mut image, u64::MAX);
+        let answer = self.make(call, &mut image, u64::MAX);
         let wanted = Answer { number: model.result, steps: model.steps as u64 };
         if answer == wanted && image == model.image {
             return Ok(());
         }
         let alike = if image == model.image { "the same image" } else { "another image" };
-        let what = format!("recovery of the store itself: {answer:?}, by the model {wanted:?} and {alike}");
+        let what = format!("{call:?} of the store itself: {answer:?}, by the model {wanted:?} and {alike}");
         Err(Failure { what, cuts: Vec::new(), image })
     }
 }
@@ -212,10 +263,11 @@ pub fn try_store(calls: &mut dyn Calls, store: &[u8]) -> Result<Figures, Failure
     let model = recover(store, u64::MAX, &mut [None; 16]);
     let demanded = demanded(store, &model.image);
     let (items, left) = (contents(store).items() as u64, demanded.items() as u64);
-    let figures = Figures { items, left, ..Figures::default() };
+    let figures = Figures { items, left, spans: Spans::of(store), ..Figures::default() };
     let (met, ends, waiting) = (Images::default(), Images::default(), VecDeque::new());
     let mut trial = Trial { calls, demanded, met, ends, waiting, figures };
-    trial.recovers_as(&model, store)?;
+    trial.does_as(Call::Recover, &model, store)?;
+    trial.does_as(Call::Reclaim, &reclaim(store, u64::MAX), store)?;
     let start = Reached { image: store.into(), cuts: Vec::new() };
     trial.cut_everywhere(Call::Reclaim, &start)?;
     while let Some(reached) = trial.waiting.pop_front() {

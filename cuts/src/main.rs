@@ -25,7 +25,7 @@ use std::process::ExitCode;
 
 use calls::Calls;
 use draw_store::draw_store;
-use explore::{try_store, Failure, Figures};
+use explore::{try_store, Failure, Figures, Spans};
 use kind::Kind;
 use oddities::Oddities;
 use premises::first_failing;
@@ -116,6 +116,8 @@ fn print(run: &Run, oddities: &Oddities, kind: Kind, seed: u64) {
         println!("  {count} thrown away: not '{premise}'");
     }
     println!("items: {items}, of which recovery leaves {left}");
+    let Spans { several, over_words, over_whole_word } = figures.spans;
+    println!("  {several} of several entries, {over_words} of them over several state words, {over_whole_word} over three or more");
     println!("calls: {} of reclaim, {} of recovery", figures.reclaims, figures.recoveries);
     println!("images reached: {}", figures.images.iter().sum::<u64>());
     for (recoveries, count) in figures.images.iter().enumerate() {

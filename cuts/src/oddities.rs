@@ -61,8 +61,13 @@ fn has_payload_entry(item: &Item, is: impl Fn(usize) -> bool) -> bool {
     (item.entry + 1..item.entry + item.span()).any(is)
 }
 
+/// The words that an item's entry states are in.
+pub fn state_words(item: &Item) -> usize {
+    (item.entry % 16 + item.span()).div_ceil(16)
+}
+
 fn over_state_words(item: &Item) -> bool {
-    item.entry % 16 + item.span() > 16
+    state_words(item) > 1
 }
 
 /// Whether the entry's bytes would be an item of one entry, were they reached.
@@ -93,7 +98,11 @@ const OF_PAGE: &[(&str, OfPage)] = &[
     ("spans sum to 126, Written below", |page| {
         page.spans() == ENTRIES && page.total(EntryState::Written) < ENTRIES
     }),
+    ("item of several entries in one state word", |page| {
+        page.has_item(|item| item.span() > 1 && !over_state_words(item))
+    }),
     ("item over several state words", |page| page.has_item(over_state_words)),
+    ("item over a whole state word and others", |page| page.has_item(|item| state_words(item) > 2)),
     ("item of namespace 0", |page| page.has_item(|item| item.namespace() == 0)),
     ("items of namespace 0 with one key", |page| page.namespace_0_shares_key()),
     ("chunk", |page| page.has_item(Item::is_chunk)),
@@ -103,6 +112,7 @@ const OF_PAGE: &[(&str, OfPage)] = &[
     }),
     ("blob index of span above 1", |page| page.has_item(|item| item.is_blob_index() && item.span() > 1)),
     ("unsound chunk", |page| page.has_unsound_chunk(|_| true)),
+    ("unsound chunk of several entries", |page| page.has_unsound_chunk(|chunk| chunk.span() > 1)),
     ("unsound chunk over several state words", |page| page.has_unsound_chunk(over_state_words)),
     ("such a one whose payload reads as an item", |page| {
         page.has_unsound_chunk(|chunk| over_state_words(chunk) && page.has_payload_as_item(chunk))

@@ -8,7 +8,7 @@ use oracle::recover::recover;
 use oracle::scan::{found, scan, Lists};
 use oracle::sector::{entry_state, EntryState, State, ENTRIES};
 use oracle::slip::{with_slip, Slip};
-use oracle::steps::{apply, call, Outcome, Run, Stage, Step};
+use oracle::steps::{apply, call, Outcome, Run, Stage, Step, TaggedStep};
 
 use crate::calls::{Answer, Call, Calls, ENDED, STOPPED};
 
@@ -77,7 +77,7 @@ fn reclaim_erases_early(image: &[u8]) -> Listed {
     listed
 }
 
-/// Mutant: a copy's entry states are marked from the highest word down.
+/// Mutant: a copy's entry states are marked from the highest entry down.
 fn reclaim_marks_downwards(image: &[u8]) -> Listed {
     let mut listed = model_reclaim(image);
     let marks = |step: &Step| matches!(step, Step::Program { word: 8..=15, .. });
@@ -87,6 +87,38 @@ fn reclaim_marks_downwards(image: &[u8]) -> Listed {
         }
     }
     listed
+}
+
+/// Document 01's covering words, as before No. 4 of document 02: marks of one item in one word are one step.
+fn by_words(outcome: Outcome) -> Listed {
+    let in_one_step = |one: &TaggedStep, next: &TaggedStep| {
+        one.marks_same_item(next) && one.marked_word() == next.marked_word()
+    };
+    let steps = outcome.list.chunk_by(in_one_step).map(joined).collect();
+    Listed { result: outcome.result, steps }
+}
+
+/// One step that clears the bits that these clear, of one word each.
+fn joined(marks: &[TaggedStep]) -> Step {
+    let values = marks.iter().filter_map(|mark| match mark.step {
+        Step::Program { value, .. } => Some(value),
+        Step::Erase { .. } => None,
+    });
+    let all = values.fold(u32::MAX, |all, value| all & value);
+    match marks[0].step {
+        Step::Program { sector, word, .. } => Step::Program { sector, word, value: all },
+        erase => erase,
+    }
+}
+
+/// Mutant: reclaim marks a copy by the words that cover its items.
+fn reclaim_marks_by_words(image: &[u8]) -> Listed {
+    by_words(reclaim(image, u64::MAX))
+}
+
+/// Mutant: recovery marks copies and erasures by the words that cover them.
+fn recover_marks_by_words(image: &[u8]) -> Listed {
+    by_words(recover(image, u64::MAX, &mut [None; 16]))
 }
 
 /// The rules before recovery's own, and then those on the image that they left.
@@ -139,7 +171,7 @@ fn resume(run: &mut Run, source: usize, copy: usize) {
     run.erase(source);
 }
 
-/// Mutant: an erasure marks its entry states from the lowest word up, so that the header goes first.
+/// Mutant: an erasure marks its entry states from the lowest entry up, so that the header goes first.
 fn recover_erases_upwards(image: &[u8]) -> Listed {
     with_slip(Slip::ErasureStatesAscending, || model_recover(image))
 }
@@ -176,10 +208,12 @@ fn recover_counts_and_sums(image: &[u8]) -> Listed {
 }
 
 /// The names under which they can be run, the model first; the last three mutants go wrong on unsettled stores alone.
-pub const NAMES: [&str; 8] = [
+pub const NAMES: [&str; 10] = [
     "model",
     "early-erasure",
     "downward-marks",
+    "reclaim-by-words",
+    "recovery-by-words",
     "blobs-first",
     "resumed-copy",
     "upward-erasure",
@@ -192,6 +226,8 @@ pub fn stand_in(name: &str) -> Option<StandIn> {
         "model" => (model_reclaim, model_recover),
         "early-erasure" => (reclaim_erases_early, model_recover),
         "downward-marks" => (reclaim_marks_downwards, model_recover),
+        "reclaim-by-words" => (reclaim_marks_by_words, model_recover),
+        "recovery-by-words" => (model_reclaim, recover_marks_by_words),
         "blobs-first" => (model_reclaim, recover_judges_blobs_first),
         "resumed-copy" => (model_reclaim, recover_resumes),
         "upward-erasure" => (model_reclaim, recover_erases_upwards),

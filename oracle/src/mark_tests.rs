@@ -2,15 +2,13 @@
 //! clearing only that entry's own bits."
 
 use crate::generate::case_of;
-use crate::items::CHUNK;
-use crate::named::{number_item, page, payload_like_items};
+use crate::named::{chunk_to_erase, item_to_copy};
 use crate::protocol::{Case, Operation};
 use crate::reclaim::reclaim;
 use crate::recover::recover;
-use crate::sector::{entry_state, EntryState, FULL_WORD};
+use crate::sector::{entry_state, EntryState};
 use crate::slip::{with_slip, Slip};
 use crate::steps::{sector_of, Outcome, Step, TaggedStep, PAIRS_OF_WORD};
-use crate::writing::{blank_sector, set_entry, set_entry_state, Fields};
 
 fn states(sector: &[u8]) -> Vec<EntryState> {
     (0..126).map(|entry| entry_state(sector, entry)).collect()
@@ -22,33 +20,25 @@ fn states(sector: &[u8]) -> Vec<EntryState> {
 fn a_copy_is_marked_upwards() {
     let before = 1 + 8 + 17 * 8;
     for marked in 0..=17 {
-        let outcome = reclaim(&payload_like_items(), before + marked as u64);
+        let outcome = reclaim(&item_to_copy(), before + marked as u64);
         let states = states(sector_of(&outcome.image, 1));
         assert!(states[..marked].iter().all(|state| *state == EntryState::Written));
         assert!(states[marked..].iter().all(|state| *state == EntryState::Empty));
     }
-    assert_eq!(reclaim(&payload_like_items(), u64::MAX).steps, before as usize + 17 + 1);
+    assert_eq!(reclaim(&item_to_copy(), u64::MAX).steps, before as usize + 17 + 1);
 }
 
-/// A chunk without an index, entries 10 to 29, between two numbers: each step erases the entry before, the header
-/// last.
+/// Entries 10 to 29, between numbers: each step erases the entry before the last one, the header at the end.
 #[test]
 fn an_erasure_goes_downwards() {
-    let chunk = Fields { kind: CHUNK, span: 20, chunk_index: 0, ..number_item("c", 0) };
-    let mut sector = page(FULL_WORD, 7, &[number_item("a", 1)]);
-    set_entry(&mut sector, 10, &chunk.header());
-    set_entry(&mut sector, 30, &number_item("b", 1).header());
-    (10..31).for_each(|entry| set_entry_state(&mut sector, entry, EntryState::Written));
-    let image = [sector, blank_sector()].concat();
-    let beside = [EntryState::Written, EntryState::Empty, EntryState::Written];
+    let beside = |states: &[EntryState]| states.iter().all(|state| *state == EntryState::Written);
     for erased in 0..=20 {
-        let outcome = recover(&image, erased as u64, &mut [None; 2]);
+        let outcome = recover(&chunk_to_erase(), erased as u64, &mut [None; 2]);
         let states = states(sector_of(&outcome.image, 0));
-        assert!(states[10..30 - erased].iter().all(|state| *state == EntryState::Written));
+        assert!(beside(&states[..30 - erased]) && beside(&states[30..32]));
         assert!(states[30 - erased..30].iter().all(|state| *state == EntryState::Erased));
-        assert_eq!([states[0], states[9], states[30]], beside);
     }
-    assert_eq!(recover(&image, u64::MAX, &mut [None; 2]).steps, 20);
+    assert_eq!(recover(&chunk_to_erase(), u64::MAX, &mut [None; 2]).steps, 20);
 }
 
 /// The entry that a mark is of, and its state. It has one pair that is not all ones.

@@ -1,10 +1,12 @@
 //! The cases that documents 01 and 02 name, each built by hand.
 
 use crate::blob_images::blob_images;
-use crate::items::BLOB_INDEX;
+use crate::items::{BLOB_INDEX, CHUNK};
 use crate::protocol::{Case, Operation};
 use crate::sector::{EntryState, ACTIVE_WORD, ENTRIES, ENTRY_BYTES, FREEING_WORD, FULL_WORD, SECTOR_BYTES};
-use crate::writing::{blank_sector, empty_page, index_data, key_of, set_entry, set_entry_state, Fields};
+use crate::writing::{
+    blank_sector, chunk_data, empty_page, index_data, key_of, set_entry, set_entry_state, Fields,
+};
 
 /// A one-entry item of namespace 1 and type 0x01.
 pub fn number_item(key: &str, value: u8) -> Fields {
@@ -196,19 +198,45 @@ fn unread_images(operation: Operation) -> Vec<Vec<u8>> {
     }
 }
 
+/// A header of these entries and after it payload that reads as items.
+fn payload_like_items(header: Fields) -> impl Iterator<Item = Fields> {
+    let payload = (1..header.span).map(|value| number_item("p", value));
+    std::iter::once(header).chain(payload)
+}
+
+/// A Full page with an item of 17 entries, so with states in two words; and an Erased entry. A free sector.
+pub fn item_to_copy() -> Vec<u8> {
+    let header = Fields { kind: 0x21, span: 17, ..number_item("a", 1) };
+    let mut full = page(FULL_WORD, 7, &payload_like_items(header).collect::<Vec<_>>());
+    set_entry_state(&mut full, 17, EntryState::Erased);
+    [full, blank_sector()].concat()
+}
+
+/// A Full page with a chunk without an index, entries 10 to 29, among numbers. A free sector.
+pub fn chunk_to_erase() -> Vec<u8> {
+    let chunk =
+        Fields { kind: CHUNK, span: 20, chunk_index: 0, data: chunk_data(600), ..number_item("c", 0) };
+    let numbers = |keys: &'static str| keys.chars().map(|key| number_item(&key.to_string(), 1));
+    let items = numbers("0123456789").chain(payload_like_items(chunk)).chain(numbers("ab"));
+    [page(FULL_WORD, 7, &items.collect::<Vec<_>>()), blank_sector()].concat()
+}
+
+/// Document 02, No. 4: "one entry a step". A copy and an erasure, each stopped between its two state words: each entry
+/// of one word is marked, none of the other.
+fn mark_cases(operation: Operation) -> Vec<Case> {
+    let case = |allowance, image| Case { operation, allowance, records: 16, image };
+    let marked_and_initialised = 1 + 8;
+    match operation {
+        Operation::Reclaim => vec![case(marked_and_initialised + 17 * 8 + 16, item_to_copy())],
+        Operation::Recover => vec![case(30 - 16, chunk_to_erase())],
+        Operation::ItemReader | Operation::Listing => Vec::new(),
+    }
+}
+
 pub fn named_cases(operation: Operation) -> Vec<Case> {
     let case = |image| Case { operation, allowance: u64::MAX, records: 16, image };
     let images = [named_images(operation), unread_images(operation), blob_images(operation)];
-    images.into_iter().flatten().map(case).collect()
-}
-
-/// An item of 17 entries, so of two state words, whose payload reads as items; and an Erased entry.
-pub fn payload_like_items() -> Vec<u8> {
-    let payload = (0..16).map(|value| number_item("p", value));
-    let header = Fields { kind: 0x21, span: 17, ..number_item("a", 1) };
-    let mut full = page(FULL_WORD, 7, &[header].into_iter().chain(payload).collect::<Vec<_>>());
-    set_entry_state(&mut full, 17, EntryState::Erased);
-    [full, blank_sector()].concat()
+    images.into_iter().flatten().map(case).chain(mark_cases(operation)).collect()
 }
 
 /// Two sectors that are Blank but for one byte: the first behind the eight first, and the last of all.
@@ -219,17 +247,12 @@ fn nearly_blank() -> Vec<u8> {
     [first, second].concat()
 }
 
-/// Cases for slips that the generated cases show seldom (slip.rs): a copy stopped behind its first mark, a recovery
-/// stopped before it erases a copy, and sectors that are Corrupt by one byte alone.
+/// Cases for slips that the generated cases show seldom (slip.rs): sectors that are Corrupt by one byte alone, and a
+/// recovery stopped before it erases a copy.
 pub fn slip_cases(operation: Operation) -> Vec<Case> {
     let case = |allowance, image| Case { operation, allowance, records: 16, image };
-    let marked_and_initialised = 1 + 8;
-    let words_and_first_mark = 17 * 8 + 1;
     match operation {
-        Operation::Reclaim => {
-            vec![case(marked_and_initialised + words_and_first_mark, payload_like_items())]
-        }
         Operation::Recover => vec![case(u64::MAX, nearly_blank()), case(0, torn_copy())],
-        Operation::ItemReader | Operation::Listing => Vec::new(),
+        _ => Vec::new(),
     }
 }
