@@ -41,11 +41,13 @@ impl Names {
     }
 }
 
+/// Mostly short; one in sixteen is sure to have its entry states in two words or more, where there is room.
 pub fn draw_span(random: &mut Random, room: usize) -> u8 {
     let span = match random.below(16) {
         0 => room,
         1 | 2 => 1 + random.below(room),
-        3..=7 => 2 + random.below(5),
+        3 => 17 + random.below(24),
+        4..=8 => 2 + random.below(5),
         _ => 1,
     };
     span.min(room) as u8

@@ -104,7 +104,7 @@ fn draw_limit(random: &mut Random, kind: Kind) -> usize {
         0..=6 if kind == Kind::Unsettled => 32,
         0 => ENTRIES,
         1..=6 => 40 + random.below(40),
-        7..=24 => 16 + random.below(24),
+        7..=34 => 16 + random.below(24),
         _ => 2 + random.below(16),
     }
 }
