@@ -60,10 +60,12 @@ pub fn recovers_alike(case: &Case) -> Result<Outcome, Outside> {
     let outcome = model_outcome(case);
     unless(outcome.result != 0, "document 01 refuses")?;
     let erased = erased_copy(image, &outcome);
+    let several_freeing = scan(image).pages.iter().filter(|page| page.state == State::Freeing).count() > 1;
     for (place, sector) in image.chunks(SECTOR_BYTES).enumerate() {
         match erased {
             Some((copy, source)) if copy == place => {
-                clean(sector).or_else(|_| torn_copy(sector, &items(sector_of(image, source))))?
+                let torn = || torn_copy(sector, &items(sector_of(image, source)), several_freeing);
+                clean(sector).or_else(|_| torn())?
             }
             _ => clean(sector)?,
         }
@@ -87,8 +89,12 @@ fn erased_copy(image: &[u8], outcome: &Outcome) -> Option<(usize, usize)> {
 }
 
 /// All on the copy that the crate could take for an item is one of the source, and nothing reaches entry 125: a
-/// repair would leave no Empty entry, and Active order would mark the copy Full.
-fn torn_copy(sector: &[u8], on_source: &[Item]) -> Judged {
+/// repair would leave no Empty entry, and Active order would mark the copy Full. An item whose marks were cut is erased
+/// by the crate's scan: beside several Freeing pages the page may then be taken for the copy of another.
+fn torn_copy(sector: &[u8], on_source: &[Item], several_freeing: bool) -> Judged {
+    let unmarked = |entry| entry_state(sector, entry) != EntryState::Written;
+    let half_marked = items(sector).iter().any(|item| (item.entry..item.end()).any(unmarked));
+    unless(half_marked && several_freeing, "torn copy, half marked, and several Freeing pages")?;
     let last = &sector[64 + ENTRY_BYTES * (ENTRIES - 1)..];
     let last_used =
         entry_state(sector, ENTRIES - 1) != EntryState::Empty || last.iter().any(|byte| *byte != 0xFF);

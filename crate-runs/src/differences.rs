@@ -37,6 +37,7 @@ pub fn all() -> Vec<Named> {
             finish::copies(),
             finish::choices(),
             finish::torn(),
+            finish::half_marked(),
             settling::blobs(),
             settling::numbers(),
             settling::duplicates(),

@@ -6,9 +6,14 @@ use crate::try_stores;
 
 const STORES: u64 = 40;
 
+/// Prints at which store it fails: README.md has the numbers.
 fn passes(name: &str, kind: Kind) -> bool {
     let mut calls = stand_in(name).expect("a name");
-    try_stores(&mut calls, kind, STORES, 1).is_ok()
+    let fails = try_stores(&mut calls, kind, STORES, 1).err();
+    if let Some((number, failure)) = &fails {
+        println!("{name}: {} store {number}, {}", kind.name(), failure.what);
+    }
+    fails.is_none()
 }
 
 #[test]

@@ -75,3 +75,14 @@ pub fn torn() -> Vec<Named> {
         recover("torn-copy-reaches-125-one-free", image(&[&wide, &begun, &Page::blank()])),
     ]
 }
+
+/// Copies that were cut inside the marks of an item: the header is Written and the last payload entry is not.
+pub fn half_marked() -> Vec<Named> {
+    let source = freeing(6).text("t", &[0x55; 64]);
+    let copy = active(7).text("t", &[0x55; 64]).states(2, 1, EntryState::Empty);
+    let other = freeing(5).number("a", 1);
+    vec![
+        recover("half-marked-copy", image(&[&source, &copy])),
+        recover("half-marked-copy-two-freeing", image(&[&other, &source, &copy])),
+    ]
+}
