@@ -33,3 +33,38 @@ pub fn allowance(case: &Case, outcome: &Outcome) -> Option<u64> {
     let spare = case.allowance - outcome.steps as u64;
     Some(count(&outcome.list, outcome.steps)? as u64 + if outcome.result == 7 { 0 } else { spare })
 }
+
+#[cfg(test)]
+mod tests {
+    use model::generate::case_of;
+    use model::protocol::Operation;
+    use model::slip::{with_slip, Slip};
+
+    use super::*;
+    use crate::class::model_outcome;
+
+    /// Counted by words a list is as long as by document 01's covering words: it saves the steps that the model saves
+    /// with copies marked so, and those that it saves with erasures marked so.
+    #[test]
+    fn by_words_is_by_covering_words() {
+        for number in 0..4000 {
+            let drawn = case_of(1, number, &[Operation::Recover, Operation::Reclaim]);
+            let case = Case { allowance: u64::MAX, ..drawn };
+            let list = model_outcome(&case).list;
+            let saved = |slip| list.len() - with_slip(slip, || model_outcome(&case)).list.len();
+            let all_saved = saved(Slip::CopyByWords) + saved(Slip::ErasureByWords);
+            assert_eq!(by_words(&list).len(), list.len() - all_saved);
+        }
+    }
+
+    /// Each stop that is at an end of the crate's steps has a count, and no other has.
+    #[test]
+    fn stops_have_a_count_at_ends_alone() {
+        for number in 0..400 {
+            let case = case_of(1, number, &[Operation::Reclaim]);
+            let list = model_outcome(&case).list;
+            let counted = (0..=list.len()).filter_map(|steps| count(&list, steps));
+            assert!(counted.eq(0..=by_words(&list).len()));
+        }
+    }
+}
