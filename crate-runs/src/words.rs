@@ -31,7 +31,7 @@ pub fn by_words(list: &[TaggedStep]) -> Vec<Step> {
 /// stops inside a word of an item's marks.
 pub fn allowance(case: &Case, outcome: &Outcome) -> Option<u64> {
     let spare = case.allowance - outcome.steps as u64;
-    Some(count(&outcome.list, outcome.steps)? as u64 + if outcome.result == 7 { 0 } else { spare })
+    Some(count(&outcome.list, outcome.steps)? as u64 + spare)
 }
 
 #[cfg(test)]
