@@ -13,7 +13,7 @@ use borrow.Author.Tests.{eqb-true}
 use Rattle.page.proofs.Tests.{both-second, either-second}
 use Rattle.flash.specs.Step.{Step}
 use Rattle.item.specs.Erase.{erasing}
-use Rattle.item.proofs.Lengths.{erasing-most}
+use Rattle.item.proofs.Lengths.{length-erasing}
 use Rattle.lists.specs.Lists.{keep, sumOf, best, ascending}
 use Rattle.lists.proofs.Sums.{sum-le, sum-plus}
 use Rattle.lists.proofs.Lengths.{length-keep, sum-sharper, sum-most, kept-once, length-flat, length-ascending}
@@ -32,7 +32,7 @@ group-back b g st z h =
 module _ (fs : List Found) where
   dropped : (v : ℕ) (i : Found) → length (dropVersion v i fs) ≤ 1 + sumOf stepsFor (chunks v fs)
   unfolding dropVersion
-  dropped v i = omega (arith, length-erased (chunks v fs), erasing-most (i .sector) (i .entry) 1 (omega arith), length-append (erasing (i .sector) (i .entry) 1) (eraseAll (chunks v fs)))
+  dropped v i = omega (arith, length-erased (chunks v fs), length-erasing (i .sector) (i .entry) 1, length-append (erasing (i .sector) (i .entry) 1) (eraseAll (chunks v fs)))
 
   judge-most : (v : ℕ) → length (judge fs v) ≤ 1 + sumOf stepsFor (chunks v fs)
   unfolding judge judgeWith

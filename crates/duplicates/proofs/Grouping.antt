@@ -18,9 +18,9 @@ use Rattle.lists.proofs.Maps.{in-flatMap, flatMap-in, flatMap-append}
 use Rattle.lists.proofs.Out.{sum-dropLast, dropLast-in}
 use Rattle.lists.proofs.Sorting.{sort-in, sum-sort}
 use Rattle.found.specs.Found.{Found, isChunk, isIndex, startIn, versionOf, groupOf, chunkOf, chunks}
-use Rattle.duplicates.specs.Duplicates.{ranked, members, olderThan, withChunks, outdated, samePlace, onceEach}
+use Rattle.duplicates.specs.Duplicates.{ranked, groups, members, olderThan, withChunks, outdated, samePlace, onceEach}
 use Rattle.duplicates.specs.Turns.{indexFrom, takesChunks, oldOne, oldOnce, oldWith, oldOf}
-use Rattle.duplicates.proofs.Once.{fresh, fresh-none, fresh-end, fresh-item, once-alone, fresh-append, once-append, Once, once-fewer, same-self, once-other, once-only, once-same}
+use Rattle.duplicates.proofs.Once.{once-in, fresh, fresh-none, fresh-end, fresh-item, once-alone, fresh-append, once-append, Once, once-fewer, same-self, once-other, once-only, once-same}
 use Rattle.found.proofs.Versions.{version-tells, version-of}
 
 -- the items stand at different places, and their keys are of bytes
@@ -66,6 +66,18 @@ with-cases fs (some k) b z (inr m) = inr (go (isIndex (b .raw)) (not (isIndex (k
     go true true n = (refl, part-of fs (versionOf (b .raw)) z n)
     go true false n = absurd n
     go false t n = absurd n
+
+-- whatever goes was found
+outdated-in : (fs : List Found) (g : ℕ) (z : Found) → z ∈ outdated fs g → z ∈ fs
+unfolding outdated
+outdated-in fs g z m =
+    let s = sortBy olderThan (members g fs) in
+    let r = flatMap-in (withChunks fs (getLast? s)) (dropLast s) z m in
+    let k = member-of fs g (r .0) (sort-in olderThan (members g fs) (r .0) (dropLast-in s (r .0) (r .1))) .here in
+    ⊎-elim (λ e. rw e k) (λ p. p .1 .here) (with-cases fs (getLast? s) (r .0) z (r .2))
+
+pub erased-in : (fs : List Found) (z : Found) → z ∈ onceEach (flatMap (outdated fs) (groups fs)) → z ∈ fs
+erased-in fs z m = let r = flatMap-in (outdated fs) (groups fs) z (once-in (flatMap (outdated fs) (groups fs)) z m) in outdated-in fs (r .0) z (r .2)
 
 module _ (fs : List Found) (apart : Apart fs) where
   -- a chunk stands where no other item stands

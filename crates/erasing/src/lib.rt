@@ -16,7 +16,7 @@ ghost use Rattle.found.specs.Ranks.{rankNumber};
 
 // Erases `n` entries from the item's first on.
 pub fn erase_at(image: &mut [u8], place: usize, n: usize, allowed: u64) -> Ran
-    requires { ⌜ Placed (now image) place × (1 ≤ n) × (place % 128 + n ≤ 128) ⌝ }
+    requires { ⌜ Placed (now image) place × (place % 128 + n ≤ 128) ⌝ }
     ensures { λ r. ⌜ Did (erasing (itemAt (now (image .entry)) place .sector) (itemAt (now (image .entry)) place .entry) n) allowed (now (image .entry)) (now (image .exit)) r × Alike (now (image .entry)) (now (image .exit)) ⌝ }
 {
     item::erase_item(

@@ -1,5 +1,5 @@
 -- What holds of each step of a list holds of each step of its parts. Assumes nothing.
-use mathlib.Core.List.{List, [], _∷_, _++_}
+use mathlib.Core.List.{List, [], _∷_, _++_, reverse, reverse-cons}
 use Prim.Native.Nat.{ℕ, zero, suc}
 use lib.ListN.{take}
 use Rattle.flash.specs.Step.{Step}
@@ -22,6 +22,12 @@ module _ (P : Step → Type 0) where
   unfolding Every
   every-append [] y p q = q
   every-append (s ∷ x) y p q = (p .0, every-append x y (p .1) q)
+
+  -- and turned about
+  pub every-reverse : (x : List Step) → Every P x → Every P (reverse x)
+  unfolding Every
+  every-reverse [] p = tt
+  every-reverse (s ∷ x) p = rw (reverse-cons s x) (every-append (reverse x) (s ∷ []) (every-reverse x (p .1)) (p .0, tt))
 
   -- any cut of them too: what holds at the end for this reason holds wherever the power fails
   pub every-take : (n : ℕ) (x : List Step) → Every P x → Every P (take n x)

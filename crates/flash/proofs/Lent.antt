@@ -1,6 +1,6 @@
 -- Steps on a part of the image that was lent are the shifted steps on the image: each byte of the part stands so much further on. Assumes nothing.
 use mathlib.Core.Path.{_≡_, refl, sym, ap, _∙_}
-use mathlib.Core.List.{List, [], _∷_, _++_, map}
+use mathlib.Core.List.{List, [], _∷_, _++_, map, reverse, reverse-cons}
 use Prim.Native.Nat.{ℕ, zero, suc, _+_, _*_, _≤_, _<_}
 use native.Mathlib.Omega.{arith}
 use lib.ListN.{take, drop, set, length-map}
@@ -33,6 +33,10 @@ module _ (a : ℕ) where
   pub shift-append : (x y : List Step) → shift a (x ++ y) ≡ shift a x ++ shift a y
   shift-append [] y = refl
   shift-append (s ∷ x) y = ap (λ (t : List Step). shift1 a s ∷ t) (shift-append x y)
+
+  pub shift-reverse : (x : List Step) → shift a (reverse x) ≡ reverse (shift a x)
+  shift-reverse [] = refl
+  shift-reverse (s ∷ x) = rw (reverse-cons s x, reverse-cons (shift1 a s) (shift a x), shift-append (reverse x) (s ∷ []), shift-reverse x)
 
   pub take-shift : (n : ℕ) (ss : List Step) → take n (shift a ss) ≡ shift a (take n ss)
   take-shift zero ss = refl

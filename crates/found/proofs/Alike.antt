@@ -13,7 +13,7 @@ use Rattle.flash.proofs.Order.{le-or-gt}
 use Rattle.flash.proofs.Every.{every-take}
 use Rattle.flash.proofs.Frame.{In, Outside, length-run, part-same, run-other}
 use Rattle.item.specs.Erase.{erasing}
-use Rattle.item.proofs.Spans.{unmarking-in}
+use Rattle.marking.proofs.Spans.{unmarking-in}
 use Rattle.found.specs.Places.{itemAt, itemsAt, Placed, Alike}
 use Rattle.lists.specs.Each.{Each}
 use Rattle.found.proofs.Lying.{sequence-same}

@@ -11,7 +11,7 @@ use Rattle.page.proofs.Walking.{item-span, raw-span}
 use Rattle.page.proofs.Items.{walk-most}
 use Rattle.flash.specs.Step.{sector}
 use Rattle.item.specs.Erase.{erasing}
-use Rattle.item.proofs.Lengths.{erasing-most}
+use Rattle.item.proofs.Lengths.{length-erasing}
 use Rattle.lists.specs.Lists.{sumOf}
 use Rattle.lists.proofs.Maps.{sum-flatMap, sum-map}
 use Rattle.lists.proofs.Lengths.{length-flat, flat-most, sum-most}
@@ -41,7 +41,7 @@ walk-steps s t (suc n) i = go (isItem t i) refl (walk-steps s t n (onFrom t i))
     go true q rest =
         let e = raw-span t i q in
         let p = item-span t i q in
-        omega (arith, erasing-most s i (spanOf (laidAt t i .raw)) (omega arith))
+        omega (arith, length-erasing s i (spanOf (laidAt t i .raw)))
     go false q rest = omega arith
 
 -- 16 pages of 126 entries

@@ -8,4 +8,5 @@ pub mod Lying
 pub mod Keys
 pub mod Codes
 pub mod Lengths
+pub mod Spanned
 pub mod Thinning

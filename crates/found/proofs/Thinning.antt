@@ -21,11 +21,11 @@ use Rattle.flash.proofs.Erased.{length-sector}
 use Rattle.flash.proofs.Frame.{drop-kept, length-run, sector-kept}
 use Rattle.flash.proofs.Laws.{run-append}
 use Rattle.flash.proofs.Lent.{sector-local}
-use Rattle.item.specs.States.{unmarking}
+use Rattle.marking.specs.Marking.{unmarking}
 use Rattle.item.specs.Erase.{erasing}
 use Rattle.item.proofs.Local.{erasing-shift, unmarking-fit}
 use Rattle.item.proofs.Safe.{erasing-in}
-use Rattle.item.proofs.Spans.{unmarking-ends, unmarking-in, unmarking-keeps}
+use Rattle.marking.proofs.Spans.{unmarking-ends, unmarking-in, unmarking-keeps}
 use Rattle.lists.specs.Each.{Each}
 use Rattle.lists.proofs.Each.{of-each}
 use Rattle.lists.proofs.Maps.{flatMap-in, map-in}
@@ -68,9 +68,6 @@ module _ (l m : List ℕ) (x : Found) (here : Met l x) (so : Thin l m) where
   span : spanOf (entryAt (sector s l) e) ≡ n
   span = sym (ap spanOf (real .bytes) ∙ raw-span (sector s l) e (is-item (sector s l) e (real .is)))
 
-  some : 1 ≤ n
-  some = let q = span in let a = real .is .some in omega arith
-
   fits : e + n ≤ 126
   fits = let q = span in let a = real .is .ends in omega arith
 
@@ -85,7 +82,7 @@ module _ (l m : List ℕ) (x : Found) (here : Met l x) (so : Thin l m) where
   local = rw (erasing-shift s e n) (sector-local s steps m (unmarking-fit e n fits))
 
   keeps : (j : ℕ) → (j < e) ⊎ (e + n ≤ j) → stateAt (run steps (sector s m)) j ≡ stateAt (sector s m) j
-  keeps j o = rw (take-length steps) at (unmarking-keeps 0 e n fits (sector s m) long (length steps) j o)
+  keeps j o = rw (take-length steps) at (unmarking-keeps 0 e n fits j o (sector s m) long (length steps))
 
   thin-more : Thin l (run (erasing s e n) m)
   thin-more = record {
@@ -104,7 +101,7 @@ module _ (l m : List ℕ) (x : Found) (here : Met l x) (so : Thin l m) where
       thin-at : (u : ℕ) (b : Bool) → eqb u s ≡ b → Thinned (sector u l) (sector u (run (erasing s e n) m)) 126 0
       thin-at u true q =
           rw (eqb-true u s q, local)
-          (thinned-more (sector s l) (sector s m) (run steps (sector s m)) this (unmarking-ends 0 e n some fits (sector s m) long) keeps (here .met) (so .thin s))
+          (thinned-more (sector s l) (sector s m) (run steps (sector s m)) this (unmarking-ends 0 e n fits (sector s m) long) keeps (here .met) (so .thin s))
       thin-at u false q = rw (other u q) (so .thin u)
 
 -- ---- all of them

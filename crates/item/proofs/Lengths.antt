@@ -1,8 +1,8 @@
--- How many steps an item takes: of a span of n entries, one at least, no more than n words of states, and ten times n to copy. Assumes nothing.
-use mathlib.Core.Path.{_≡_, refl, ap}
+-- How many steps an item takes: of a span of n entries n to erase it, one at least, and no more than ten times n to copy it. Assumes nothing.
+use mathlib.Core.Path.{_≡_}
 use mathlib.Core.Bool.{Bool, true, false, cond}
 use mathlib.Core.List.{List, [], _∷_, _++_}
-use Prim.Native.Nat.{ℕ, zero, suc, _+_, _*_, _/_, _≤_}
+use Prim.Native.Nat.{ℕ, _+_, _*_, _≤_}
 use native.Mathlib.Omega.{arith}
 use lib.Dec.{eqb}
 use lib.ListN.{length, length-append}
@@ -11,21 +11,16 @@ use Rattle.page.specs.State.{allOnes}
 use Rattle.flash.specs.Step.{erase, sector}
 use Rattle.flash.specs.Words.{words}
 use Rattle.flash.proofs.Words.{length-words}
-use Rattle.item.proofs.Spans.{length-down}
+use Rattle.marking.proofs.Spans.{length-marking, length-unmarking}
 use Rattle.item.specs.Copy.{fullMark, copying}
 use Rattle.item.specs.Erase.{erasing}
 use Rattle.item.specs.Initialise.{clearing, initialising}
 use Rattle.item.specs.Mark.{pageState}
-use Rattle.item.specs.States.{statesUp, marking, unmarking, covering}
+use Rattle.marking.specs.Marking.{marking}
 
-length-up : (base j n d w k : ℕ) → length (statesUp base j n d w k) ≡ k
-unfolding statesUp
-length-up base j n d w zero = refl
-length-up base j n d w (suc k) = ap suc (length-up base j n d (w + 1) k)
-
-pub erasing-most : (s i n : ℕ) → 1 ≤ n → length (erasing s i n) ≤ n
-unfolding erasing unmarking
-erasing-most s i n h = rw (length-down (s * 4096) i n 3 (i / 16) (covering i n)) (omega arith)
+pub length-erasing : (s i n : ℕ) → length (erasing s i n) ≡ n
+unfolding erasing
+length-erasing s i n = length-unmarking (s * 4096) i n
 
 full-most : (base next : ℕ) → length (fullMark base next) ≤ 1
 unfolding fullMark
@@ -36,12 +31,12 @@ full-most base next = go (eqb next 126)
     go false = omega arith
 
 pub copying-most : (base j : ℕ) (r : List ℕ) → 1 ≤ spanOf r → length (copying base j r) ≤ 10 * spanOf r
-unfolding copying marking
+unfolding copying
 copying-most base j r h =
     let n = spanOf r in
     let w = words (base + 64 + j * 32) r 0 (n * 8) in
-    let s = statesUp base j n 1 (j / 16) (covering j n) in
-    omega (arith, length-append w (s ++ fullMark base (j + n)), length-append s (fullMark base (j + n)), length-words (base + 64 + j * 32) r 0 (n * 8), length-up base j n 1 (j / 16) (covering j n), full-most base (j + n))
+    let s = marking base j n in
+    omega (arith, length-append w (s ++ fullMark base (j + n)), length-append s (fullMark base (j + n)), length-words (base + 64 + j * 32) r 0 (n * 8), length-marking base j n, full-most base (j + n))
 
 clearing-most : (s : ℕ) (l : List ℕ) → length (clearing s l) ≤ 1
 unfolding clearing

@@ -1,9 +1,6 @@
 pub mod Clearing
 pub mod Header
-pub mod Pairs
 pub mod Turns
-pub mod States
-pub mod Spans
 pub mod Marked
 pub mod Packed
 pub mod Local

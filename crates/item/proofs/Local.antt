@@ -1,46 +1,40 @@
 -- The steps of an operation on a page are the same on the page's own bytes, shifted to where the page stands. Assumes nothing.
 use mathlib.Core.Path.{_≡_, refl, sym, ap, _∙_}
 use mathlib.Core.Bool.{Bool, true, false, cond}
-use mathlib.Core.List.{List, [], _∷_, _++_}
+use mathlib.Core.List.{List, [], _∷_, _++_, reverse}
 use Prim.Native.Nat.{ℕ, zero, suc, _+_, _*_, _/_, _≤_}
 use native.Mathlib.Nat.{add-zero}
 use native.Mathlib.Omega.{arith}
 use lib.Dec.{eqb}
 use Rattle.entry.specs.Fields.{spanOf}
+use Rattle.flash.specs.Step.{Step}
 use Rattle.flash.specs.Words.{words}
 use Rattle.flash.proofs.Every.{Every, every-append}
-use Rattle.flash.proofs.Lent.{shift, Fit, AllFit, shift-append}
+use Rattle.flash.proofs.Lent.{shift, Fit, AllFit, shift-append, shift-reverse}
 use Rattle.flash.proofs.Words.{words-fit, words-shift}
 use Rattle.item.specs.Mark.{pageState}
-use Rattle.item.specs.States.{statesUp, statesDown, covering, marking, unmarking}
+use Rattle.marking.specs.Marking.{stateSteps, marking, unmarking}
 use Rattle.item.specs.Copy.{fullMark, copying}
 use Rattle.item.specs.Erase.{erasing}
-use Rattle.item.proofs.Spans.{marking-every, unmarking-every}
+use Rattle.marking.proofs.Spans.{marking-every, unmarking-every}
 
 -- ---- shifted
 
 module _ (a : ℕ) where
-  up-shift : (j n d w k : ℕ) → statesUp a j n d w k ≡ shift a (statesUp 0 j n d w k)
-  unfolding statesUp
-  up-shift j n d w zero = refl
-  up-shift j n d w (suc k) =
-      let i : a + 32 + w * 4 ≡ a + (32 + w * 4) = omega arith in
-      rw (i, up-shift j n d (w + 1) k)
-
-  down-shift : (j n d w k : ℕ) → statesDown a j n d w k ≡ shift a (statesDown 0 j n d w k)
-  unfolding statesDown
-  down-shift j n d w zero = refl
-  down-shift j n d w (suc k) =
-      let i : a + 32 + (w + k) * 4 ≡ a + (32 + (w + k) * 4) = omega arith in
-      rw (i, down-shift j n d w k)
+  states-shift : (d j n : ℕ) → stateSteps a d j n ≡ shift a (stateSteps 0 d j n)
+  unfolding stateSteps
+  states-shift d j zero = refl
+  states-shift d j (suc n) =
+      let i : a + 32 + j / 16 * 4 ≡ a + (32 + j / 16 * 4) = omega arith in
+      rw (i, states-shift d (j + 1) n)
 
   pub marking-shift : (j n : ℕ) → marking a j n ≡ shift a (marking 0 j n)
   unfolding marking
-  marking-shift j n = up-shift j n 1 (j / 16) (covering j n)
+  marking-shift j n = states-shift 1 j n
 
   pub unmarking-shift : (j n : ℕ) → unmarking a j n ≡ shift a (unmarking 0 j n)
   unfolding unmarking
-  unmarking-shift j n = down-shift j n 3 (j / 16) (covering j n)
+  unmarking-shift j n = ap (λ (x : List Step). reverse x) (states-shift 3 j n) ∙ sym (shift-reverse a (stateSteps 0 3 j n))
 
   pub full-shift : (next : ℕ) → fullMark a next ≡ shift a (fullMark 0 next)
   unfolding fullMark
@@ -69,10 +63,10 @@ erasing-shift s i n = unmarking-shift (s * 4096) i n
 -- ---- within the page's bytes
 
 pub marking-fit : (j n : ℕ) → j + n ≤ 126 → AllFit 4096 (marking 0 j n)
-marking-fit j n h = marking-every (Fit 4096) 0 j n h (λ v g. omega arith)
+marking-fit j n h = marking-every 0 j n (Fit 4096) (λ e a b. omega arith)
 
 pub unmarking-fit : (j n : ℕ) → j + n ≤ 126 → AllFit 4096 (unmarking 0 j n)
-unmarking-fit j n h = unmarking-every (Fit 4096) 0 j n h (λ v g. omega arith)
+unmarking-fit j n h = unmarking-every 0 j n (Fit 4096) (λ e a b. omega arith)
 
 pub full-fit : (next : ℕ) → AllFit 4096 (fullMark 0 next)
 unfolding fullMark Every

@@ -19,8 +19,8 @@ use Rattle.flash.proofs.Laws.{cut-append, run-append}
 use Rattle.flash.proofs.Order.{le-or-gt}
 use Rattle.flash.proofs.Every.{every-take}
 use Rattle.item.specs.Copy.{copying, fullMark}
-use Rattle.item.specs.States.{marking}
-use Rattle.item.proofs.Spans.{marking-first, marking-in, marking-keeps, marking-whole}
+use Rattle.marking.specs.Marking.{marking}
+use Rattle.marking.proofs.Spans.{marking-first, marking-in, marking-keeps, marking-whole}
 use Rattle.item.proofs.Turns.{full-no, full-yes}
 use Rattle.item.proofs.Packed.{Packed, item-packed, item-words-in}
 use Rattle.item.proofs.Marked.{marked-word}
@@ -66,9 +66,9 @@ module _ (q : ℕ) (T : List ℕ) (ys : List (List ℕ)) (p : ℕ) (H : Shape q 
       let l1 = shape-T1 .len in
       let ln : length T2 ≡ 4096 = length-run (take (suc c) st) T1 ∙ l1 in
       let by : (j : ℕ) → 64 ≤ j → getD T2 j 0 ≡ getD T1 j 0 = (λ j u. run-other 32 64 (take (suc c) st) T1 j i (inr u)) in
-      let keeps : (x : ℕ) → (x < p) ⊎ (p + n ≤ x) → stateAt T2 x ≡ stateAt T1 x = (λ x o. marking-keeps 0 p n fit T1 (omega arith) (suc c) x o) in
+      let keeps : (x : ℕ) → (x < p) ⊎ (p + n ≤ x) → stateAt T2 x ≡ stateAt T1 x = (λ x o. marking-keeps 0 p n fit x o T1 (omega arith) (suc c)) in
       let some-span = F .some in
-      let first : stateAt T2 p ≡ written = marking-first 0 p n some-span fit T1 (omega arith) c ∙ rw (shape-T1 .empty-from p (omega arith) (omega arith)) in
+      let first : stateAt T2 p ≡ written = marking-first 0 p n fit T1 (omega arith) some-span c ∙ rw (shape-T1 .empty-from p (omega arith) (omega arith)) in
       record {
         len = ln;
         tail = part-kept 32 64 4 28 (take (suc c) st) T1 i (inl (omega arith)) ∙ shape-T1 .tail;

@@ -15,10 +15,10 @@ use Rattle.flash.proofs.Every.{every-none, every-one}
 use Rattle.flash.proofs.Frame.{AllIn, In, length-run, run-other}
 use Rattle.flash.proofs.Words.{words-in}
 use Rattle.item.specs.Copy.{fullMark}
-use Rattle.item.specs.States.{marking}
+use Rattle.marking.specs.Marking.{marking}
 use Rattle.item.proofs.Turns.{full-no, full-yes}
-use Rattle.item.proofs.States.{state-byte}
-use Rattle.item.proofs.Spans.{marking-ends, marking-in, marking-keeps, marking-whole}
+use Rattle.marking.proofs.States.{state-byte}
+use Rattle.marking.proofs.Spans.{marking-ends, marking-in, marking-keeps, marking-whole}
 
 -- ones from byte a on
 abbrev pub Ones : List ℕ → ℕ → Type 0
@@ -71,12 +71,12 @@ module _ (T : List ℕ) (p : ℕ) (r : List ℕ) (K : Packed T p) (some : 1 ≤ 
   states-3 e = state-byte 0 e T2 (run fm T2) (run-other 0 4 fm T2 (0 + (32 + e / 4)) fm-in (inr (omega arith)))
 
   others : (e : ℕ) → e < 126 → (e < p) ⊎ (p + n ≤ e) → stateAt (run fm T2) e ≡ stateAt T e
-  others e h o = states-3 e ∙ (rw (marking-whole 0 p n) at (marking-keeps 0 p n fit T1 (let a = len-1 in omega arith) (suc (length st)) e o)) ∙ states-1 e h
+  others e h o = states-3 e ∙ (rw (marking-whole 0 p n) at (marking-keeps 0 p n fit e o T1 (let a = len-1 in omega arith) (suc (length st)))) ∙ states-1 e h
 
   own : (e : ℕ) → p ≤ e → e < p + n → stateAt (run fm T2) e ≡ written
   unfolding and8
   own e a b =
-      states-3 e ∙ marking-ends 0 p n some fit T1 (let c = len-1 in omega arith) e a b ∙ rw (states-1 e (omega arith), K .empty-from e a (omega arith))
+      states-3 e ∙ marking-ends 0 p n fit T1 (let c = len-1 in omega arith) e a b ∙ rw (states-1 e (omega arith), K .empty-from e a (omega arith))
 
   behind : Ones (run fm T2) (64 + (p + n) * 32)
   behind i a b =

@@ -22,7 +22,7 @@ use Rattle.flash.proofs.Frame.{AllIn, In, length-run, part-kept, part-same, run
 use Rattle.flash.proofs.Every.{every-one}
 use Rattle.item.specs.Initialise.{header}
 use Rattle.item.specs.Mark.{pageState}
-use Rattle.item.proofs.States.{state-byte}
+use Rattle.marking.proofs.States.{state-byte}
 use Rattle.item.proofs.Header.{header-right, header-sequence}
 
 -- the bytes of items laid one after the other

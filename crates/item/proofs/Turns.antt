@@ -1,7 +1,7 @@
--- A turn of each loop that makes steps: the list is its first step and the rest, or empty. Assumes nothing.
+-- A turn of the loop that copies words: the list is its first step and the rest. The parts of a copy. Assumes nothing.
 use mathlib.Core.Path.{_≡_, sym, ap, _∙_}
 use mathlib.Core.List.{List, [], _∷_, _++_}
-use Prim.Native.Nat.{ℕ, suc, _+_, _-_, _*_, _≤_, _<_}
+use Prim.Native.Nat.{ℕ, _+_, _-_, _*_, _<_}
 use native.Mathlib.Omega.{arith}
 use lib.ListN.{getD}
 use borrow.Author.Tests.{eq-eqb, ne-eqb}
@@ -12,34 +12,8 @@ use Rattle.flash.specs.Step.{Step, program}
 use Rattle.flash.specs.Words.{word, words}
 use Rattle.flash.proofs.Words.{words-more}
 use Rattle.item.specs.Mark.{pageState}
-use Rattle.item.specs.States.{stateWord, statesUp, statesDown, marking}
+use Rattle.marking.specs.Marking.{marking}
 use Rattle.item.specs.Copy.{fullMark, copying}
-
-module _ (base j n d : ℕ) where
-  pub up-more : (w end : ℕ) → w < end → statesUp base j n d w (end - w) ≡ stateWord base j n d w ∷ statesUp base j n d (w + 1) (end - (w + 1))
-  unfolding statesUp
-  up-more w end h =
-      let q : end - w ≡ suc (end - (w + 1)) = omega arith in
-      rw q
-
-  pub up-end : (w end : ℕ) → end ≤ w → statesUp base j n d w (end - w) ≡ []
-  unfolding statesUp
-  up-end w end h =
-      let q : end - w ≡ 0 = omega arith in
-      rw q
-
-  pub down-more : (start w : ℕ) → start < w → statesDown base j n d start (w - start) ≡ stateWord base j n d (w - 1) ∷ statesDown base j n d start (w - 1 - start)
-  unfolding statesDown
-  down-more start w h =
-      let q : w - start ≡ suc (w - 1 - start) = omega arith in
-      let p : start + (w - 1 - start) ≡ w - 1 = omega arith in
-      rw (q, p)
-
-  pub down-end : (start w : ℕ) → w ≤ start → statesDown base j n d start (w - start) ≡ []
-  unfolding statesDown
-  down-end start w h =
-      let q : w - start ≡ 0 = omega arith in
-      rw q
 
 module _ (base next : ℕ) where
   pub full-yes : next ≡ 126 → fullMark base next ≡ pageState base 0xFC ∷ []

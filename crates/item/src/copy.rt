@@ -1,13 +1,13 @@
 // Copy an item into the next entries of another sector. Its states are marked once all its bytes stand: payload is never read as a header.
-use super::span::mark_written;
 use flash::Ran;
 use layout::ENTRIES_AT;
 use layout::ENTRY_BYTES;
 use layout::PAGE_ENTRIES;
 use layout::SECTOR_BYTES;
+use marking::mark_written;
 ghost use mathlib.Core.Path.{_≡_};
 ghost use mathlib.Core.Logic.{_⊎_};
-ghost use Prim.Native.Nat.{_+_, _*_, _≤_, _<_};
+ghost use Prim.Native.Nat.{_+_, _*_, _≤_};
 ghost use lib.ListN.{length};
 ghost use Rattle.word.specs.Number.{part};
 ghost use Rattle.entry.specs.Fields.{spanOf};
@@ -61,7 +61,7 @@ pub fn copy_item(
     n: usize,
     allowed: u64,
 ) -> Ran
-    requires { ⌜ (source + 4096 ≤ length (now image)) × (target + 4096 ≤ length (now image)) × ((source + 4096 ≤ target) ⊎ (target + 4096 ≤ source)) × (i + n ≤ 126) × (j + n ≤ 126) × (0 < n) × (spanOf (part (now image) (source + 64 + i * 32) (n * 32)) ≡ n) ⌝ }
+    requires { ⌜ (source + 4096 ≤ length (now image)) × (target + 4096 ≤ length (now image)) × ((source + 4096 ≤ target) ⊎ (target + 4096 ≤ source)) × (i + n ≤ 126) × (j + n ≤ 126) × (spanOf (part (now image) (source + 64 + i * 32) (n * 32)) ≡ n) ⌝ }
     ensures { λ r. ⌜ Did (copying target j (part (now (image .entry)) (source + 64 + i * 32) (n * 32))) allowed (now (image .entry)) (now (image .exit)) r ⌝ }
 {
     let from = source + ENTRIES_AT + i * ENTRY_BYTES;

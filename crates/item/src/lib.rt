@@ -3,7 +3,6 @@ mod copy;
 mod erase;
 mod initial;
 mod marks;
-mod span;
 
 pub use copy::copy_item;
 pub use erase::erase_item;

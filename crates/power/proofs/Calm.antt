@@ -13,6 +13,7 @@ use Rattle.lists.proofs.Member.{_∈_}
 use Rattle.lists.proofs.Sums.{sum-zero}
 use Rattle.found.specs.Found.{Found, groupOf, indexOf, isIndex, isPart, versionOf}
 use Rattle.found.proofs.Versions.{groupIn, version-group}
+use Rattle.found.proofs.Spanned.{Spanned}
 use Rattle.versions.specs.Versions.{versionIn}
 use Rattle.blobs.specs.Blobs.{blobSteps}
 use Rattle.duplicates.specs.Duplicates.{duplicateSteps}
@@ -53,5 +54,5 @@ module _ (fs : List Found) (tidy : Tidy fs) where
       none x m true p false q = refl
       none x m false p b q = refl
 
-  pub calm : blobSteps fs ≡ [] → duplicateSteps fs ≡ [] → Calm (λ (f : List ℕ → ℕ). tot f fs)
-  calm = idle-calm fs (λ x m. tidy x m .0) zero-lone
+  pub calm : Spanned fs → blobSteps fs ≡ [] → duplicateSteps fs ≡ [] → Calm (λ (f : List ℕ → ℕ). tot f fs)
+  calm spans = idle-calm fs (λ x m. tidy x m .0) spans zero-lone

@@ -22,11 +22,11 @@ use Rattle.flash.proofs.Every.{every-take}
 use Rattle.flash.proofs.Frame.{AllIn, In, drop-kept, length-run, part-kept, sector-kept}
 use Rattle.flash.proofs.Lent.{Fit, sector-local, take-shift}
 use Rattle.flash.proofs.Order.{le-or-gt}
-use Rattle.item.specs.States.{unmarking}
+use Rattle.marking.specs.Marking.{unmarking}
 use Rattle.item.specs.Erase.{erasing}
 use Rattle.item.proofs.Local.{erasing-shift, unmarking-fit}
 use Rattle.item.proofs.Safe.{erasing-in}
-use Rattle.item.proofs.Spans.{unmarking-before, unmarking-ends, unmarking-in, unmarking-keeps}
+use Rattle.marking.proofs.Spans.{unmarking-before, unmarking-ends, unmarking-in, unmarking-keeps}
 use Rattle.lists.proofs.Search.{in-keep}
 use Rattle.lists.proofs.Member.{_∈_, true≢false}
 use Rattle.table.specs.Table.{sectorsOf}
@@ -96,9 +96,6 @@ module _ (l : List ℕ) (x : Found) (S : Stands l x) where
   span : spanOf (entryAt T e) ≡ n
   span = let r = on-page .1 in sym (ap spanOf (r .bytes) ∙ raw-span T e (is-item T e (r .is)))
 
-  some : 1 ≤ n
-  some = let q = span in let a = on-page .1 .is .some in omega arith
-
   fits : e + n ≤ 126
   fits = let q = span in let a = on-page .1 .is .ends in omega arith
 
@@ -138,7 +135,7 @@ module _ (l : List ℕ) (x : Found) (S : Stands l x) where
 
   -- the other entries, while the steps are made
   same : (k i : ℕ) → (i < e) ⊎ (e + n ≤ i) → stateAt (run (take k steps) T) i ≡ stateAt T i
-  same k i o = unmarking-keeps 0 e n fits T long k i o
+  same k i o = unmarking-keeps 0 e n fits i o T long k
 
   whole : (k : ℕ) → length steps ≤ k → take k (erasure x) ≡ erasure x
   whole k h = rw (erasing-shift s e n, take-shift (s * 4096) k steps, take-all k steps h)
@@ -148,7 +145,7 @@ module _ (l : List ℕ) (x : Found) (S : Stands l x) where
   before k = ⊎-elim (λ h. inr (whole k h)) (λ h. inl (rw (local k) (kept h))) (le-or-gt (length steps) k)
     where
       kept : k < length steps → itemsOf (run (take k steps) T) ≡ itemsOf T
-      kept h = items-kept T (run (take k steps) T) (rest k) e n is span (same k) (unmarking-before 0 e n some fits T long k h) laid (state k)
+      kept h = items-kept T (run (take k steps) T) (rest k) e n is span (same k) (unmarking-before 0 e n fits T long k h) laid (state k)
 
   -- after it they are the same but this one
   pub after : itemsOf (sector (x .sector) (run (erasure x) l)) ≡ but (x .entry) (itemsOf (sector (x .sector) l))
@@ -158,7 +155,7 @@ module _ (l : List ℕ) (x : Found) (S : Stands l x) where
       k = length steps
 
       gone : (i : ℕ) → e ≤ i → i < e + n → stateAt (run (take k steps) T) i ≡ 0
-      gone i a b = rw (take-length steps) (unmarking-ends 0 e n some fits T long i a b)
+      gone i a b = rw (take-length steps) (unmarking-ends 0 e n fits T long i a b)
 
   -- and every other item still stands
   pub stands-after : (y : Found) → Stands l y → (y .sector ≡ x .sector → y .entry ≡ x .entry → ⊥) → Stands (run (erasure x) l) y

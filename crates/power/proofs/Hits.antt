@@ -1,61 +1,49 @@
 -- Where stage 3 or the duplicates of stage 4 make a step, one of their steps erases the header of an item that was found. Assumes nothing.
-use mathlib.Core.Path.{_≡_, refl}
-use mathlib.Core.Logic.{_⊎_, inl, inr, ⊎-elim}
+use mathlib.Core.Path.{_≡_, refl, ap, _∙_}
+use mathlib.Core.Logic.{_⊎_, inl, inr}
 use mathlib.Core.Bool.{Bool, cond, false, true}
 use mathlib.Core.Option.{Option, none, some}
-use mathlib.Core.List.{List, [], _++_, _∷_, dropLast, flatMap, getLast?}
-use Prim.Native.Nat.{_*_, _+_, _-_, _/_, _≤_, suc, zero, ℕ}
-use native.Mathlib.Nat.{add-zero}
+use mathlib.Core.List.{List, [], _++_, _∷_, flatMap}
+use Prim.Native.Nat.{_*_, _+_, _-_, _≤_, ℕ}
 use native.Mathlib.Omega.{arith}
 use lib.Dec.{eqb}
 use Rattle.entry.specs.Fields.{spanOf}
 use Rattle.flash.specs.Step.{Step}
-use Rattle.item.specs.States.{stateWord, statesDown, unmarking}
+use Rattle.marking.specs.Marking.{stateStep, unmarking}
 use Rattle.item.specs.Erase.{erasing}
-use Rattle.lists.specs.Lists.{sortBy}
+use Rattle.marking.proofs.Spans.{unmarking-append}
+use Rattle.marking.proofs.Turns.{unmarking-one}
 use Rattle.lists.proofs.Search.{best-in, keep-in}
-use Rattle.lists.proofs.Out.{dropLast-in}
-use Rattle.lists.proofs.Sorting.{sort-in}
-use Rattle.lists.proofs.Maps.{flatMap-in}
 use Rattle.lists.proofs.Member.{_∈_, in-left, in-right}
 use Rattle.found.specs.Found.{Found, chunkOf, chunks, eraseAll, indexOf, newer, versionOf}
 use Rattle.versions.specs.Versions.{bothSound, counting, dropCounting, dropVersion, indices, judge, judgeWith, older, olderWith, sound, versionIn}
 use Rattle.blobs.specs.Blobs.{blobSteps}
-use Rattle.duplicates.specs.Duplicates.{duplicateSteps, groups, members, olderThan, outdated, withChunks}
-use Rattle.duplicates.proofs.Once.{once-in}
-use Rattle.duplicates.proofs.Grouping.{with-cases}
+use Rattle.duplicates.specs.Duplicates.{duplicateSteps}
+use Rattle.duplicates.proofs.Grouping.{erased-in}
+use Rattle.found.proofs.Spanned.{Spanned}
 use Rattle.quick.proofs.Idle.{newestOf}
 
-abbrev headWord : Found → ℕ → Step
-headWord x n = stateWord (x .sector * 4096) (x .entry) n 3 (x .entry / 16)
+abbrev headStep : Found → Step
+headStep x = stateStep (x .sector * 4096) 3 (x .entry)
 
 -- one of the steps erases the header of an item that was found
 abbrev pub Hit : List Found → List Step → Type 0
-Hit fs ss = (x : Found) × (n : ℕ) × (x ∈ fs) × (1 ≤ n) × (headWord x n ∈ ss)
+Hit fs ss = (x : Found) × (x ∈ fs) × (headStep x ∈ ss)
 
 -- in a part of the list
 pub hit-left : (fs : List Found) (a b : List Step) → Hit fs a → Hit fs (a ++ b)
-hit-left fs a b h = (h .0, h .1, h .2, h .3, in-left _ a b (h .4))
+hit-left fs a b h = (h .0, h .1, in-left _ a b (h .2))
 
 hit-right : (fs : List Found) (a b : List Step) → Hit fs b → Hit fs (a ++ b)
-hit-right fs a b h = (h .0, h .1, h .2, h .3, in-right _ a b (h .4))
+hit-right fs a b h = (h .0, h .1, in-right _ a b (h .2))
 
--- the header's word is the last of an erasure
-down-last : (base j n d w k : ℕ) → stateWord base j n d w ∈ statesDown base j n d w (suc k)
-unfolding statesDown
-down-last base j n d w zero = inl (rw add-zero)
-down-last base j n d w (suc k) = inr (down-last base j n d w k)
-
+-- the header's step is the last of an erasure
 erasing-hit : (fs : List Found) (x : Found) (n : ℕ) → x ∈ fs → 1 ≤ n → Hit fs (erasing (x .sector) (x .entry) n)
-unfolding erasing unmarking
+unfolding erasing
 erasing-hit fs x n m h =
-    let k = (x .entry + (n - 1)) / 16 - x .entry / 16 in
-    let q : (x .entry + (n - 1)) / 16 + 1 - x .entry / 16 ≡ suc k = omega arith in
-    (x, n, m, h, rw q (down-last (x .sector * 4096) (x .entry) n 3 (x .entry / 16) k))
-
--- each has a span
-abbrev pub Spanned : List Found → Type 0
-Spanned fs = (x : Found) → x ∈ fs → 1 ≤ spanOf (x .raw)
+    let q : n ≡ 1 + (n - 1) = omega arith in
+    let split = ap (unmarking (x .sector * 4096) (x .entry)) q ∙ unmarking-append (x .sector * 4096) (x .entry) 1 (n - 1) in
+    (x, m, rw split (in-right (headStep x) (unmarking (x .sector * 4096) (x .entry + 1) (n - 1)) _ (rw (unmarking-one (x .sector * 4096) (x .entry)) (inl refl))))
 
 module _ (fs : List Found) (sp : Spanned fs) where
   all-hit : (xs : List Found) → ((x : Found) → x ∈ xs → x ∈ fs) → (eraseAll xs ≡ []) ⊎ Hit fs (eraseAll xs)
@@ -125,16 +113,7 @@ module _ (fs : List Found) (sp : Spanned fs) where
   unfolding blobSteps
   blobs-hit = append-hit _ _ (flatMap-hit (judge fs) judge-hit _) (flatMap-hit (older fs) older-hit _)
 
-  -- stage 4
-  outdated-in : (g : ℕ) (z : Found) → z ∈ outdated fs g → z ∈ fs
-  unfolding outdated
-  outdated-in g z m =
-      let s = sortBy olderThan (members g fs) in
-      let r = flatMap-in (withChunks fs (getLast? s)) (dropLast s) z m in
-      let k = keep-in _ fs (r .0) (sort-in olderThan (members g fs) (r .0) (dropLast-in s (r .0) (r .1))) .0 in
-      ⊎-elim (λ e. rw e k) (λ p. p .1 .here) (with-cases fs (getLast? s) (r .0) z (r .2))
-
   -- and so does stage 4
   pub dup-hit : (duplicateSteps fs ≡ []) ⊎ Hit fs (duplicateSteps fs)
   unfolding duplicateSteps
-  dup-hit = all-hit _ (λ x m. let r = flatMap-in (outdated fs) (groups fs) x (once-in (flatMap (outdated fs) (groups fs)) x m) in outdated-in (r .0) x (r .2))
+  dup-hit = all-hit _ (λ x m. erased-in fs x m)

@@ -2,13 +2,15 @@
 use mathlib.Core.Logic.{inl, inr, ⊎-elim}
 use mathlib.Core.Bool.{Bool, _&&_, cond, false, true}
 use mathlib.Core.Option.{Option, none, some}
-use mathlib.Core.List.{List, [], flatMap}
-use Prim.Native.Nat.{_*_, _/_, suc, zero, ℕ}
+use mathlib.Core.List.{List, [], _∷_, flatMap}
+use Prim.Native.Nat.{_*_, ℕ}
 use lib.Dec.{eqb}
 use Rattle.flash.specs.Step.{Step, sector}
-use Rattle.item.specs.States.{statesDown, unmarking}
+use Rattle.flash.proofs.Every.{Every}
+use Rattle.marking.specs.Marking.{unmarking}
 use Rattle.item.specs.Mark.{markFull}
 use Rattle.item.specs.Erase.{erasing}
+use Rattle.marking.proofs.Spans.{unmarking-every}
 use Rattle.lists.specs.Lists.{keep}
 use Rattle.lists.proofs.Maps.{flatMap-in, map-in}
 use Rattle.lists.proofs.Member.{_∈_, in-append}
@@ -23,15 +25,15 @@ use Rattle.page.proofs.Read.{noRoom}
 use Rattle.power.proofs.Plain.{stages}
 use Rattle.power.proofs.Zeros.{Prog}
 
-down-prog : (base j n d w k : ℕ) (st : Step) → st ∈ statesDown base j n d w k → Prog st
-unfolding statesDown
-down-prog base j n d w zero st m = absurd m
-down-prog base j n d w (suc k) st (inl e) = rw e tt
-down-prog base j n d w (suc k) st (inr m) = down-prog base j n d w k st m
+every-at : (ss : List Step) → Every Prog ss → (st : Step) → st ∈ ss → Prog st
+unfolding Every
+every-at [] p st m = absurd m
+every-at (s ∷ ss) p st (inl e) = rw e (p .0)
+every-at (s ∷ ss) p st (inr m) = every-at ss (p .1) st m
 
 erasing-prog : (s i n : ℕ) (st : Step) → st ∈ erasing s i n → Prog st
-unfolding erasing unmarking
-erasing-prog s i n st m = down-prog (s * 4096) i n 3 (i / 16) _ st m
+unfolding erasing
+erasing-prog s i n st m = every-at (unmarking (s * 4096) i n) (unmarking-every (s * 4096) i n Prog (λ e a b. tt)) st m
 
 all-prog : (xs : List Found) (st : Step) → st ∈ eraseAll xs → Prog st
 unfolding eraseAll

@@ -30,6 +30,7 @@ use Rattle.quick.specs.Calm.{Calm}
 use Rattle.quick.proofs.Idle.{calm-same}
 use Rattle.power.proofs.Plain.{onward, orderOn, plain, stages}
 use Rattle.power.proofs.Calm.{Tidy, calm}
+use Rattle.found.proofs.Spanned.{found-spanned}
 use Rattle.power.proofs.Totals.{total-found}
 
 -- where stages 3 and 4 make no step, nothing was to be erased
@@ -128,4 +129,4 @@ calm-stable l na nf t e =
     let z : freeings (pages l) ≡ 0 = freeings-none (pages l) (λ p m. rw (page-state l p m) (nf (p .sector) (pages-in l p m .1))) in
     let o = order-none l (no-kept l (λ p m. rw (page-state l p m) (na (p .sector) (pages-in l p m .1)))) in
     let s = idle-stages (pages l) l (stage-of l (o .0) (o .1) z e) in
-    calm-same (λ (f : List ℕ → ℕ). total f l) _ (λ f. sym (total-found f l)) (calm (found (pages l) l) t (s .0) (s .1))
+    calm-same (λ (f : List ℕ → ℕ). total f l) _ (λ f. sym (total-found f l)) (calm (found (pages l) l) t (found-spanned (pages l) l) (s .0) (s .1))

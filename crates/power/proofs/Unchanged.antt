@@ -4,12 +4,11 @@ use mathlib.Core.Logic.{⊎-elim}
 use mathlib.Core.Bool.{_&&_, false}
 use mathlib.Core.Option.{none}
 use mathlib.Core.List.{List, []}
-use Prim.Native.Nat.{_%_, _*_, _+_, _/_, _<_, _^_, _≤_, ℕ}
+use Prim.Native.Nat.{_%_, _*_, _+_, _/_, _<_, _^_, ℕ}
 use native.Mathlib.Omega.{arith}
 use lib.ListN.{drop}
 use lib.Seq.{getD-take}
 use Rattle.entry.specs.States.{stateAt}
-use Rattle.entry.specs.Fields.{spanOf}
 use Rattle.page.specs.Walk.{Laid}
 use Rattle.flash.specs.Step.{Step, run, sector}
 use Rattle.lists.proofs.Search.{keep-none}
@@ -23,10 +22,10 @@ use Rattle.found.specs.Found.{Found, found, foundOn}
 use Rattle.blobs.specs.Blobs.{blobSteps}
 use Rattle.duplicates.specs.Duplicates.{duplicateStage, duplicateSteps, lastMarks}
 use Rattle.finishing.specs.Finishing.{freeings}
-use Rattle.page.proofs.Walking.{raw-span}
-use Rattle.page.proofs.Items.{IsItem, Real, is-item, walk-in}
+use Rattle.page.proofs.Items.{IsItem, Real, walk-in}
 use Rattle.power.proofs.Quiet.{freeings-none, no-kept, order-none}
-use Rattle.power.proofs.Hits.{Hit, Spanned, blobs-hit, dup-hit, hit-left}
+use Rattle.power.proofs.Hits.{Hit, blobs-hit, dup-hit, hit-left}
+use Rattle.found.proofs.Spanned.{found-spanned}
 use Rattle.page.proofs.Read.{noRoom}
 use Rattle.power.proofs.Plain.{onward, plain, stages}
 use Rattle.power.proofs.Zeros.{Prog, hit-zero}
@@ -47,7 +46,7 @@ module _ (L : List ℕ) (na : (p : Page) → p ∈ pages L → activePage p ≡ 
 
   -- a found item: its page, its entry Written
   abbrev At : Found → Type 0
-  At x = (x .sector < sectorsOf L) × IsItem (sector (x .sector) L) (x .entry) × (1 ≤ spanOf (x .raw))
+  At x = (x .sector < sectorsOf L) × IsItem (sector (x .sector) L) (x .entry)
 
   found-at : (x : Found) → x ∈ fs → At x
   unfolding found foundOn itemsIn
@@ -58,10 +57,7 @@ module _ (L : List ℕ) (na : (p : Page) → p ∈ pages L → activePage p ≡ 
     where
       at : (x : Found) (p : Page) (i : Laid) → p .sector < sectorsOf L → Real (sector (p .sector) L) i
           → x ≡ record { sector = p .sector; sequence = p .seen .sequence; entry = i .entry; raw = i .raw } → At x
-      at x p i h r e = rw e (h, r .is, rw (r .bytes) (let a = raw-span (sector (p .sector) L) (i .entry) (is-item (sector (p .sector) L) (i .entry) (r .is)) in let b = r .is .some in omega arith))
-
-  spanned : Spanned fs
-  spanned x m = found-at x m .2
+      at x p i h r e = rw e (h, r .is)
 
   state-in : (s e : ℕ) → e < 126 → stateAt (drop (s * 4096) L) e ≡ stateAt (sector s L) e
   unfolding stateAt sector
@@ -70,10 +66,10 @@ module _ (L : List ℕ) (na : (p : Page) → p ∈ pages L → activePage p ≡ 
   -- a step that erases is seen in the image
   no-hit : (ss : List Step) → ((st : Step) → st ∈ ss → Prog st) → run ss L ≡ L → Hit fs ss → ⊥
   no-hit ss f e h =
-      let r = found-at (h .0) (h .2) in
+      let r = found-at (h .0) (h .1) in
       let a = r .1 .some in
       let b = r .1 .ends in
-      let z = hit-zero (h .0 .sector * 4096) (h .0 .entry) (h .1) ss L (omega (arith, r .0)) (omega arith) (h .3) f (h .4) in
+      let z = hit-zero (h .0 .sector * 4096) (h .0 .entry) ss L (omega (arith, r .0)) (omega arith) f (h .2) in
       let y : stateAt (drop (h .0 .sector * 4096) L) (h .0 .entry) ≡ 0 = rw e at z in
       let x = state-in (h .0 .sector) (h .0 .entry) (omega arith) in
       let w = r .1 .is-written in
@@ -81,8 +77,8 @@ module _ (L : List ℕ) (na : (p : Page) → p ∈ pages L → activePage p ≡ 
 
   stage-none : run (stages (pages L) L) L ≡ L → stages (pages L) L ≡ []
   stage-none e =
-      let b : blobSteps fs ≡ [] = ⊎-elim (λ k. k) (λ k. absurd (no-hit (stages (pages L) L) (stage-prog (pages L) L) e (in-stage k))) (blobs-hit fs spanned) in
-      let d : duplicateSteps fs ≡ [] = ⊎-elim (λ k. k) (λ k. absurd (no-hit (stages (pages L) L) (stage-prog (pages L) L) e (dup-into L b k))) (dup-hit fs spanned) in
+      let b : blobSteps fs ≡ [] = ⊎-elim (λ k. k) (λ k. absurd (no-hit (stages (pages L) L) (stage-prog (pages L) L) e (in-stage k))) (blobs-hit fs (found-spanned (pages L) L)) in
+      let d : duplicateSteps fs ≡ [] = ⊎-elim (λ k. k) (λ k. absurd (no-hit (stages (pages L) L) (stage-prog (pages L) L) e (dup-into L b k))) (dup-hit fs (found-spanned (pages L) L)) in
       none-into L na b d
     where
       in-stage : Hit fs (blobSteps fs) → Hit fs (stages (pages L) L)

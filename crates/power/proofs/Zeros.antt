@@ -16,8 +16,8 @@ use Rattle.flash.proofs.And.{and8-none, and8-pair}
 use Rattle.flash.proofs.Frame.{length-apply}
 use Rattle.flash.proofs.Order.{le-or-gt}
 use Rattle.flash.proofs.Bytes.{put-other, put-same-at}
-use Rattle.item.specs.States.{stateWord}
-use Rattle.item.proofs.States.{state-byte, word-sets}
+use Rattle.marking.specs.Marking.{stateStep}
+use Rattle.marking.proofs.States.{state-byte, step-sets}
 use Rattle.lists.proofs.Member.{_∈_}
 
 and-zero : (x y : ℕ) → x ≡ 0 → and8 x y ≡ 0
@@ -59,12 +59,11 @@ unfolding run
 run-zero base e [] l f z = z
 run-zero base e (s ∷ ss) l f z = run-zero base e ss (apply s l) (λ t m. f t (inr m)) (apply-zero base e s l (f s (inl refl)) z)
 
--- the word that erases the header is among the steps: the entry is Erased at the end
-pub hit-zero : (base e n : ℕ) (ss : List Step) (l : List ℕ) → base + 4096 ≤ length l → e < 126 → 1 ≤ n → ((st : Step) → st ∈ ss → Prog st)
-    → stateWord base e n 3 (e / 16) ∈ ss → stateAt (drop base (run ss l)) e ≡ 0
+-- the step that erases the header is among the steps: the entry is Erased at the end
+pub hit-zero : (base e : ℕ) (ss : List Step) (l : List ℕ) → base + 4096 ≤ length l → e < 126 → ((st : Step) → st ∈ ss → Prog st)
+    → stateStep base 3 e ∈ ss → stateAt (drop base (run ss l)) e ≡ 0
 unfolding run
-hit-zero base e n [] l h k g f m = absurd m
-hit-zero base e n (s ∷ ss) l h k g f (inl q) =
-    run-zero base e ss (apply s l) (λ t m. f t (inr m))
-    (rw (← q) (word-sets base e n 3 (e / 16) e l h (omega arith) (omega arith) (omega arith) (omega arith) refl ∙ and8-none (stateAt (drop base l) e)))
-hit-zero base e n (s ∷ ss) l h k g f (inr m) = hit-zero base e n ss (apply s l) (rw (length-apply s l) h) k g (λ t w. f t (inr w)) m
+hit-zero base e [] l h k f m = absurd m
+hit-zero base e (s ∷ ss) l h k f (inl q) =
+    run-zero base e ss (apply s l) (λ t m. f t (inr m)) (rw (← q) (step-sets base 3 e l h (omega arith) (omega arith) ∙ and8-none (stateAt (drop base l) e)))
+hit-zero base e (s ∷ ss) l h k f (inr m) = hit-zero base e ss (apply s l) (rw (length-apply s l) h) k (λ t w. f t (inr w)) m

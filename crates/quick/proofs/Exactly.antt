@@ -24,6 +24,7 @@ use Rattle.table.specs.declared.Page.{Page}
 use Rattle.found.specs.Found.{Found, found, indexOf, isIndex, versionOf}
 use Rattle.found.specs.Places.{Lies, itemAt, placeOf}
 use Rattle.found.proofs.Finding.{items-found}
+use Rattle.found.proofs.Spanned.{found-spanned}
 use Rattle.blobs.specs.Blobs.{blobSteps}
 use Rattle.duplicates.specs.Duplicates.{duplicateSteps}
 use Rattle.quick.specs.Calm.{Calm, ZeroLone, ZeroTwice, tot, zeroIndex}
@@ -73,7 +74,7 @@ module _ (l : List ℕ) (bytes : (j : ℕ) → getD l j 0 < 256) (pages : List P
   calm-still C = rw (blob-idle (found pages l) C, duplicate-idle (found pages l) C)
 
   pub still-calm : ZeroLone sums → repairs (found pages l) ≡ [] → Calm sums
-  still-calm zero-lone e = idle-calm (found pages l) keys zero-lone (nil-left _ _ e) (nil-right (blobSteps (found pages l)) _ e)
+  still-calm zero-lone e = idle-calm (found pages l) keys (found-spanned pages l) zero-lone (nil-left _ _ e) (nil-right (blobSteps (found pages l)) _ e)
 
   -- what `is_calm` promises of its answer r, and of the table t that it leaves
   module _ (t : List ℕ) (r : Bool) (yes : r ≡ true → Calm sums) (no : r ≡ false → Calm sums → Crowded t l (map placeOf (found pages l))) where

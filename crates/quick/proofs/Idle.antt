@@ -3,22 +3,20 @@ use mathlib.Core.Path.{_∙_, _≡_, fun-ext, refl, sym}
 use mathlib.Core.Bool.{Bool, _||_, cond, false, true}
 use mathlib.Core.Option.{Option, none, some}
 use mathlib.Core.List.{List, [], _∷_, flatMap, map}
-use Prim.Native.Nat.{_+_, _-_, _/_, _≤_, suc, ℕ}
+use Prim.Native.Nat.{_+_, _≤_, ℕ}
 use native.Mathlib.Omega.{arith}
 use lib.Dec.{eqb, ltb}
 use borrow.Author.Tests.{eq-eqb}
 use Rattle.entry.specs.States.{one}
-use Rattle.entry.specs.Fields.{indexCount, indexSize, spanOf}
+use Rattle.entry.specs.Fields.{indexCount, indexSize}
 use Rattle.page.proofs.Tests.{both-first, both-is, both-second}
-use Rattle.item.specs.States.{statesDown, unmarking}
-use Rattle.item.specs.Erase.{erasing}
 use Rattle.lists.specs.Lists.{ascending, best, better, keep, sortBy}
 use Rattle.lists.proofs.Sums.{sum-kept-one}
 use Rattle.lists.proofs.Search.{best-in, keep-in}
 use Rattle.lists.proofs.Maps.{flatMap-none, map-in}
 use Rattle.lists.proofs.Sorting.{dropLast-short, length-sort}
 use Rattle.lists.proofs.Ascending.{ascending-in}
-use Rattle.lists.proofs.Member.{_∈_, nil-left, nil≢, true≢false}
+use Rattle.lists.proofs.Member.{_∈_, true≢false}
 use Rattle.found.specs.Found.{Found, eraseAll, groupOf, indexOf, isIndex, isPart, newer, versionOf}
 use Rattle.versions.specs.Versions.{bothSound, counting, indices, judge, judgeWith, older, olderWith, sound, soundOne, versionIn}
 use Rattle.versions.proofs.Exact.{numbers-exact}
@@ -34,20 +32,6 @@ newestOf g fs = best newer (keep (λ (x : Found). indexOf (versionIn g 0) (x .ra
 -- calm is a fact of the sums alone
 pub calm-same : (S T : (List ℕ → ℕ) → ℕ) → ((f : List ℕ → ℕ) → S f ≡ T f) → Calm T → Calm S
 calm-same S T h C = let e : S ≡ T = fun-ext h in rw e C
-
--- ---- an erasure has a step
-pub erase-some : (s i n : ℕ) → erasing s i n ≡ [] → ⊥
-unfolding erasing unmarking statesDown
-erase-some s i n e =
-    let k = (i + (n - 1)) / 16 - i / 16 in
-    let q : (i + (n - 1)) / 16 + 1 - i / 16 ≡ suc k = omega arith in
-    nil≢ (rw q at e)
-
--- items are erased by no step only where there are none
-pub eraseAll-none : (xs : List Found) → eraseAll xs ≡ [] → xs ≡ []
-unfolding eraseAll flatMap
-eraseAll-none [] e = refl
-eraseAll-none (x ∷ xs) e = absurd (erase-some (x .sector) (x .entry) (spanOf (x .raw)) (nil-left _ _ e))
 
 pub eraseAll-nil : (xs : List Found) → xs ≡ [] → eraseAll xs ≡ []
 unfolding eraseAll flatMap

@@ -21,13 +21,14 @@ use Rattle.lists.proofs.Ascending.{in-ascending}
 use Rattle.lists.proofs.Member.{_∈_, nil-left, nil-right, nil≢, none≢some}
 use Rattle.found.specs.Found.{Found, chunkOf, chunks, groupOf, indexOf, isChunk, isIndex, isPart, newer, versionOf}
 use Rattle.found.proofs.Versions.{groupIn, version-group}
+use Rattle.found.proofs.Spanned.{Spanned, erase-some, eraseAll-none}
 use Rattle.versions.specs.Versions.{bothSound, chunkNumbered, counting, dropCounting, dropVersion, exact, indices, judge, judgeWith, older, olderWith, sizeIn, sound, soundOne, versionIn}
 use Rattle.versions.proofs.Exact.{sound-exact}
 use Rattle.blobs.specs.Blobs.{blobSteps}
 use Rattle.blobs.proofs.Ordered.{group-space}
 use Rattle.duplicates.specs.Duplicates.{duplicateSteps, groups, members, olderThan, onceEach, outdated, ranked, withChunks}
+use Rattle.duplicates.proofs.Grouping.{erased-in}
 use Rattle.quick.specs.Calm.{Calm, ZeroLone, inGroup, partOf, tot, zeroIndex}
-use Rattle.quick.proofs.Idle.{erase-some, eraseAll-none}
 use Rattle.quick.proofs.Counts.{in-pos, length-keep, length-one, one-le, pos-in}
 use Rattle.quick.proofs.Versions.{index-not-chunk, index-part, pow-pos, split-in}
 
@@ -49,9 +50,9 @@ flatMap-with fs o (x ∷ xs) e = absurd (with-some fs o x (nil-left _ _ e))
 -- a version is not dropped by no step
 drop-some : (v : ℕ) (i : Found) (fs : List Found) → dropVersion v i fs ≡ [] → ⊥
 unfolding dropVersion
-drop-some v i fs e = erase-some (i .sector) (i .entry) 1 (nil-left _ _ e)
+drop-some v i fs e = erase-some (i .sector) (i .entry) 1 (omega arith) (nil-left _ _ e)
 
-module _ (fs : List Found) (keys : (x : Found) → x ∈ fs → keyNumber (keyOf (x .raw)) < 2 ^ 128) (zero-lone : ZeroLone (λ (f : List ℕ → ℕ). tot f fs))
+module _ (fs : List Found) (keys : (x : Found) → x ∈ fs → keyNumber (keyOf (x .raw)) < 2 ^ 128) (spans : Spanned fs) (zero-lone : ZeroLone (λ (f : List ℕ → ℕ). tot f fs))
     (idle3 : blobSteps fs ≡ []) (idle4 : duplicateSteps fs ≡ []) where
   -- ---- stage 4: one of a group
   one-of : (g : ℕ) (x : Found) → x ∈ members g fs → length (members g fs) ≤ 1
@@ -62,7 +63,7 @@ module _ (fs : List Found) (keys : (x : Found) → x ∈ fs → keyNumber (keyOf
       let b = eqb-true (groupOf (x .raw)) g (both-second (ranked (x .raw)) _ (k .1)) in
       let n = in-keep (λ (y : Found). ranked (y .raw)) fs x (k .0) a in
       let i : g ∈ groups fs = in-ascending _ g (rw b at (in-map (λ (y : Found). groupOf (y .raw)) (keep (λ (y : Found). ranked (y .raw)) fs) x n)) in
-      let z : outdated fs g ≡ [] = flatMap-each (outdated fs) (groups fs) (onceEach-none _ (eraseAll-none _ idle4)) g i in
+      let z : outdated fs g ≡ [] = flatMap-each (outdated fs) (groups fs) (onceEach-none _ (eraseAll-none _ (λ y k. spans y (erased-in fs y k)) idle4)) g i in
       let f = flatMap-with fs (getLast? (sortBy olderThan (members g fs))) (dropLast (sortBy olderThan (members g fs))) z in
       let c = dropLast-none (sortBy olderThan (members g fs)) f in
       let d = length-sort olderThan (members g fs) in
@@ -105,7 +106,7 @@ module _ (fs : List Found) (keys : (x : Found) → x ∈ fs → keyNumber (keyOf
       good i false r f = absurd (drop-some v i fs f)
 
       go : (o : Option Found) → counting v fs ≡ o → judgeWith v fs o ≡ [] → (i : Found) × (counting v fs ≡ some i) × (sound v fs i ≡ true)
-      go none q f = absurd (no-parts q (eraseAll-none (chunks v fs) f))
+      go none q f = absurd (no-parts q (eraseAll-none (chunks v fs) (λ y k. spans y (keep-in (λ (z : Found). chunkOf v (z .raw)) fs y k .0)) f))
       go (some i) q f = (i, q, good i (sound v fs i) refl f)
 
   -- it is one of the indices

@@ -11,7 +11,7 @@ returns : tie.Need-returns
 unfolding itemAt
 returns c =
     let a = c .before .before .before .before .before in
-    (c .before .before .erase-item .ensures, erasing-alike (a .args .place / 128) (a .args .place % 128 - 2) (a .args .n) (omega (arith, a .pre .0 .entries, a .pre .2)) (c .before .before .erase-item .ensures))
+    (c .before .before .erase-item .ensures, erasing-alike (a .args .place / 128) (a .args .place % 128 - 2) (a .args .n) (omega (arith, a .pre .0 .entries, a .pre .1)) (c .before .before .erase-item .ensures))
 
 pub erase-at-spec : {M : Type 1} → statement M
 erase-at-spec = tie.close (tie.spec (λ c. search needs) (λ c κs. search needs) (λ c. search needs) returns)

@@ -56,7 +56,7 @@ span-at-requires : tie.Need-span-at-requires Inv-loop μ-loop
 span-at-requires c κs = let h = here (c .before .before .before .before) in rw (h .0) (h .1)
 
 erase-at-requires : tie.Need-erase-at-requires Inv-loop μ-loop
-erase-at-requires c κs = let h = here (c .before .before .before .before .before .before) in (rw (h .0) (h .1), c .before .span-at .ensures .1, c .before .span-at .ensures .2)
+erase-at-requires c κs = let h = here (c .before .before .before .before .before .before) in (rw (h .0) (h .1), c .before .span-at .ensures .2)
 
 returns : tie.Need-returns Inv-loop μ-loop
 returns c =

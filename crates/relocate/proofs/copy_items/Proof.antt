@@ -84,7 +84,6 @@ copy-item-requires c κs =
       apart (a .s) (a .target) (l .before .before .pre .3),
       omega arith,
       omega arith,
-      omega arith,
       turn-span (a .s) (v .image) (sector (a .s) (a .image .now)) (v .inv .3) (v .i) _ (m .0) (m .1),
     )
 

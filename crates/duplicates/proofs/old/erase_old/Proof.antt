@@ -28,7 +28,7 @@ erase-at-requires : tie.Need-erase-at-requires
 erase-at-requires c κs =
     let at-place-at = c .before .before .before .before in
     let entered = at-place-at .before .before .before .before in
-    (rw (at-place-at .place-at .ensures) (old-placed entered), c .before .span-at .ensures .1, c .before .span-at .ensures .2)
+    (rw (at-place-at .place-at .ensures) (old-placed entered), c .before .span-at .ensures .2)
 
 returns : tie.Need-returns
 returns c =

@@ -8,7 +8,7 @@ use native.Mathlib.Omega.{arith}
 use Rattle.flash.specs.Did.{Goes}
 use Rattle.flash.proofs.Laws.{goes-start, goes-on, goes-stop, goes-last}
 use Rattle.word.specs.Number.{part}
-use Rattle.item.specs.States.{marking}
+use Rattle.marking.specs.Marking.{marking}
 use Rattle.item.specs.Copy.{fullMark, copying}
 use Rattle.item.proofs.Turns.{copying-by}
 use borrow.Author.Needs.{needs}
@@ -23,7 +23,7 @@ returns c =
     let w = c .before .before .before .before in
     let s = w .before .before .before in
     let a = s .args in
-    goes-stop _ (goes-start _ _ _) (copying-by (a .target) (a .j) (a .source + 64 + a .i * 32) (a .n) (a .image .now) (s .pre .6)) (w .copy-words .ensures) (c .enum-told .given .1)
+    goes-stop _ (goes-start _ _ _) (copying-by (a .target) (a .j) (a .source + 64 + a .i * 32) (a .n) (a .image .now) (s .pre .5)) (w .copy-words .ensures) (c .enum-told .given .1)
 
 -- what is left once the words are copied
 copied : (c : tie.After-known-told) →
@@ -35,7 +35,7 @@ copied c =
     let w = c .before .before .before .before .before in
     let s = w .before .before .before in
     let a = s .args in
-    goes-on (goes-start _ _ _) (copying-by (a .target) (a .j) (a .source + 64 + a .i * 32) (a .n) (a .image .now) (s .pre .6)) (w .copy-words .ensures) (c .before .r1 .given .1)
+    goes-on (goes-start _ _ _) (copying-by (a .target) (a .j) (a .source + 64 + a .i * 32) (a .n) (a .image .now) (s .pre .5)) (w .copy-words .ensures) (c .before .r1 .given .1)
 
 returns-2 : tie.Need-returns-2
 returns-2 c =

@@ -1,0 +1,5 @@
+pub mod Pairs
+pub mod States
+pub mod Spans
+pub mod Turns
+pub mod Ends
