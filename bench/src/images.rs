@@ -135,6 +135,17 @@ pub fn to_reclaim(full_pages: u32) -> Vec<u8> {
     image(pages, 1)
 }
 
+/// A Full page of three texts of 40 entries and 6 Erased entries, and a blank sector.
+pub fn texts_to_reclaim() -> Vec<u8> {
+    let payload = [0x55u8; 39 * 32];
+    let mut page = Page::new(FULL, 1);
+    for _ in 0..3 {
+        page.key += 1;
+        page.item(TEXT, 0xFF, sized(&payload), &payload);
+    }
+    image(vec![page.erased(6)], 1)
+}
+
 /// 15 Full pages and an Active one of 10 items: 1,900 one-entry items.
 pub fn settled_16() -> Vec<u8> {
     let mut pages: Vec<Page> = (1..16).map(full).collect();

@@ -128,8 +128,8 @@ fn print_line(what: &str, limit: &Times, ours: &Times, theirs: &Times) {
 }
 
 /// Times calls of ours, each with a line of its own, and the crate's, if it is there. Each finds a fresh copy of the image in
-/// the same place, and all have to make the same image by the same number of steps. `limit` reads the bytes that the rules
-/// make one read.
+/// the same place, and all have to make the same image; ours by the same number of steps (the crate marks entries by words, so
+/// it takes fewer where items have several entries). `limit` reads the bytes that the rules make one read.
 fn time_calls(image: &[u8], limit: impl Fn() -> u32, ours: &[(&'static str, Call)], theirs: Option<Call>) {
     let mut limits = Times::default();
     let mut calls: Vec<(Call, Times)> =
@@ -138,11 +138,12 @@ fn time_calls(image: &[u8], limit: impl Fn() -> u32, ours: &[(&'static str, Call
     let mut made = None;
     turns(|| {
         limits.take(&limit);
-        for (call, times) in &mut calls {
+        for (number, (call, times)) in calls.iter_mut().enumerate() {
             copy.copy_from_slice(image);
             let steps = times.take(|| call(&mut copy));
             let first = made.get_or_insert_with(|| (steps, copy.clone()));
-            assert!(first.0 == steps && first.1 == copy, "{}: two answers", ours[0].0);
+            let of_ours = number < ours.len();
+            assert!((first.0 == steps || !of_ours) && first.1 == copy, "{}: two answers", ours[0].0);
         }
     });
     let theirs = theirs.and_then(|_| calls.pop()).map(|(_, times)| times).unwrap_or_default();
@@ -178,6 +179,7 @@ fn measure_stacks() {
     let repairs = to_repair().map(|(what, image)| (what, image, recover as Call));
     for (what, image, call) in repairs.chain([
         ("reclaim: 16 sectors, 100 items copied", to_reclaim(14), reclaim as Call),
+        ("reclaim: 2 sectors, 3 texts of 40 entries", texts_to_reclaim(), reclaim),
         ("recovery: clean, 16 sectors, 1,900 items", settled_16(), recover),
         ("recovery: clean, 16 sectors, mixed", settled_mixed(), recover),
         ("recovery: 16 Blank sectors", blank_16(), recover),
@@ -200,10 +202,11 @@ fn half_reclaimed() -> Vec<u8> {
 }
 
 fn time_reclaims() {
-    for (what, full_pages) in
-        [("reclaim: 16 sectors, 1,864 items, 100 copied", 14), ("reclaim: 2 sectors, 100 items", 0)]
-    {
-        let image = to_reclaim(full_pages);
+    for (what, image) in [
+        ("reclaim: 16 sectors, 1,864 items, 100 copied", to_reclaim(14)),
+        ("reclaim: 2 sectors, 100 items", to_reclaim(0)),
+        ("reclaim: 2 sectors, 3 texts of 40 entries", texts_to_reclaim()),
+    ] {
         let source = &image[image.len() - 2 * SECTOR..image.len() - SECTOR];
         let limit = || headers_of(&image) ^ entries_of(source);
         time_calls(&image, limit, &[(what, reclaim)], of_crate::RECLAIM);
