@@ -7,6 +7,7 @@ use Prim.Native.Nat.{ℕ, ◌+◌, ◌*◌, ◌<◌, ◌≤◌}
 use native.Mathlib.Omega.{arith}
 use lib.Dec.{eqb}
 use lib.ListN.{drop, length}
+use lib.Seq.{take-length}
 use borrow.Author.Tests.{eqb-true, eqb-false}
 use Rattle.entry.specs.States.{state_at}
 use Rattle.entry.specs.Fields.{entry_at, span_of}
@@ -16,7 +17,6 @@ use Rattle.page.proofs.Walking.{raw-span}
 use Rattle.page.proofs.Items.{Real, is_item_lem, walk_in}
 use Rattle.page.proofs.Thinned.{Thinned, thinned_none, thinned_more, thinned_unread}
 use Rattle.flash.specs.Step.{Step, run, sector}
-use Rattle.flash.proofs.Begins.{begins_whole}
 use Rattle.flash.proofs.Erased.{length-sector}
 use Rattle.flash.proofs.Frame.{drop-kept, length_run, sector-kept}
 use Rattle.flash.proofs.Laws.{run-append}
@@ -82,7 +82,7 @@ module _ (l m : List ℕ) (x : Found) (here : Met l x) (so : Thin l m) where
   local = rw (erasing-shift s e n) (sector-local s steps m (unmarking_fit e n fits))
 
   keeps : (j : ℕ) → (j < e) ⊎ (e + n ≤ j) → state_at (run steps (sector s m)) j ≡ state_at (sector s m) j
-  keeps j o = unmarking-keeps 0 e n fits j o steps (begins_whole steps) (sector s m) long
+  keeps j o = rw (take-length steps) at (unmarking-keeps 0 e n fits j o (sector s m) long (length steps))
 
   thin_more : Thin l (run (erasing s e n) m)
   thin_more = record {

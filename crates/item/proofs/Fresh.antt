@@ -1,11 +1,11 @@
 -- A fresh sector: a blank one is free, and initialising makes no page of it until its last step, and then an Active one with every entry Empty. Assumes nothing.
 use mathlib.Core.Path.{◌∙◌, ◌≡◌, ap, refl, sym}
-use mathlib.Core.Logic.{◌⊎◌, inl, inr, ⊎_elim}
+use mathlib.Core.Logic.{inl, inr}
 use mathlib.Core.Bool.{true}
 use mathlib.Core.List.{List, [], ◌++◌}
 use Prim.Native.Nat.{◌%◌, ◌*◌, ◌+◌, ◌/◌, ◌<◌, ◌^◌, ◌≤◌, suc, zero, ℕ}
 use native.Mathlib.Omega.{arith}
-use lib.ListN.{get_or, length, length-drop, length-take}
+use lib.ListN.{get_or, length, length-drop, length-take, take}
 use lib.Seq.{ext_get_or}
 use Rattle.word.specs.Number.{part}
 use Rattle.word.proofs.Bytes.{part-byte}
@@ -13,17 +13,14 @@ use Rattle.entry.specs.States.{empty, state_at}
 use Rattle.page.specs.State.{is_free, state_of}
 use Rattle.page.proofs.Read.{Word4, state_free}
 use Rattle.flash.specs.Step.{Step, blank, run}
-use Rattle.flash.specs.Torn.{Begins}
 use Rattle.flash.specs.Words.{words}
 use Rattle.flash.proofs.Erased.{blank-byte}
-use Rattle.flash.proofs.Begins.{begins_in, begins_none, begins_whole}
-use Rattle.flash.proofs.Bytes.{nth4}
-use Rattle.flash.proofs.Frame.{AllIn, length_run, run-other}
+use Rattle.flash.proofs.Frame.{AllIn, In, length_run, run-other}
 use Rattle.flash.proofs.Words.{words_in, words-read}
 use Rattle.flash.proofs.Laws.{run-append}
+use Rattle.flash.proofs.Every.{every_take}
 use Rattle.item.specs.Initialise.{header}
 use Rattle.item.proofs.Header.{header-length, header_small}
-use Rattle.item.proofs.Marked.{WordAt, clears-active, mark_begun}
 use Rattle.item.proofs.Packed.{Ones, Packed}
 use Rattle.item.proofs.Shape.{Shape}
 
@@ -45,9 +42,9 @@ module _ (q : ℕ) (T : List ℕ) (len : length T ≡ 4096) (on : Ones T 0) wher
   in_0 : AllIn 0 4 (words 0 (header q) 0 1)
   in_0 = words_in 0 (header q) 0 4 0 1 (omega arith) (omega arith)
 
-  -- the power fails before word 0 is begun: the state word is still all ones, whatever bits of the others are cleared
-  pub init_junk : (cs : List Step) → Begins cs (words 0 (header q) 1 7) → is_free (state_of (run cs T)) ≡ true
-  init_junk cs b = state_free _ (run-other 4 32 cs T 0 (begins_in 4 32 cs _ b in_1) (inl (omega arith)) ∙ on 0 (omega arith) (omega arith))
+  -- a cut before word 0: the state word is still all ones
+  pub init_junk : (k : ℕ) → is_free (state_of (run (take k (words 0 (header q) 1 7)) T)) ≡ true
+  init_junk k = state_free _ (run-other 4 32 (take k (words 0 (header q) 1 7)) T 0 (every_take (In 4 32) k _ in_1) (inl (omega arith)) ∙ on 0 (omega arith) (omega arith))
 
   abbrev T2 : List ℕ
   T2 = run (init_steps q) T
@@ -75,23 +72,6 @@ module _ (q : ℕ) (T : List ℕ) (len : length T ≡ 4096) (on : Ones T 0) wher
   high j g h =
       ap (λ (r : List ℕ). get_or r j 0) T2_is ∙ run-other 0 4 (words 0 (header q) 0 1) T1 j in_0 (inr (omega arith))
       ∙ run-other 4 32 (words 0 (header q) 1 7) T j in_1 (inr g) ∙ on j (omega arith) h
-
-  -- the power fails in word 0: the sector is free still, or the page is made
-  pub init_last : (cs : List Step) → Begins cs (words 0 (header q) 0 1) → (is_free (state_of (run cs T1)) ≡ true) ⊎ (run cs T1 ≡ T2)
-  unfolding words header run
-  init_last cs b =
-      ⊎_elim (λ e. inl (rw e (init_junk (words 0 (header q) 1 7) (begins_whole _))))
-      (λ e. inr (e.2 ∙ rw (begins_none e.0 e.1) (sym T2_is)))
-      (mark_begun T1 0 0 0xFF 0xFE (let a = len-T1 in omega arith) ones_1 (omega arith) (omega arith) clears-active cs [] b)
-    where
-      ones_1 : WordAt T1 0 0xFF
-      ones_1 i h = run-other 4 32 (words 0 (header q) 1 7) T (0 + i) in_1 (inl (omega arith)) ∙ on (0 + i) (omega arith) (omega arith) ∙ same i
-        where
-          same : (i : ℕ) → 0xFF ≡ nth4 0xFF 0xFF 0xFF 0xFF i
-          same zero = refl
-          same (suc zero) = refl
-          same (suc (suc zero)) = refl
-          same (suc (suc (suc i))) = refl
 
   -- it is Active
   pub init_word : Word4 T2 0xFE

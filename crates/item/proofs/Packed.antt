@@ -3,14 +3,13 @@
 use mathlib.Core.Path.{◌∙◌, ◌≡◌}
 use mathlib.Core.Logic.{◌⊎◌, inl, inr, ⊎_elim}
 use mathlib.Core.List.{List}
-use Prim.Native.Nat.{◌*◌, ◌+◌, ◌/◌, ◌<◌, ◌≤◌, ℕ}
+use Prim.Native.Nat.{◌*◌, ◌+◌, ◌/◌, ◌<◌, ◌≤◌, suc, ℕ}
 use native.Mathlib.Omega.{arith}
 use lib.ListN.{get_or, length}
 use Rattle.entry.specs.States.{empty, state_at, written}
 use Rattle.entry.specs.Fields.{span_of}
 use Rattle.flash.specs.Step.{Step, and8, run}
 use Rattle.flash.specs.Words.{words}
-use Rattle.flash.proofs.Begins.{begins_whole}
 use Rattle.flash.proofs.Order.{le-or-gt}
 use Rattle.flash.proofs.Every.{every_none, every_one}
 use Rattle.flash.proofs.Frame.{AllIn, In, length_run, run-other}
@@ -19,7 +18,7 @@ use Rattle.item.specs.Copy.{full_mark}
 use Rattle.marking.specs.Marking.{marking}
 use Rattle.item.proofs.Turns.{full-no, full-yes}
 use Rattle.marking.proofs.States.{state-byte}
-use Rattle.marking.proofs.Spans.{marking_ends, marking_in, marking-keeps}
+use Rattle.marking.proofs.Spans.{marking_ends, marking_in, marking-keeps, marking_whole}
 
 -- ones from byte a on
 abbrev pub Ones : List ℕ → ℕ → Type 0
@@ -72,7 +71,7 @@ module _ (T : List ℕ) (p : ℕ) (r : List ℕ) (K : Packed T p) (some : 1 ≤ 
   states_3 e = state-byte 0 e T2 (run fm T2) (run-other 0 4 fm T2 (0 + (32 + e / 4)) fm_in (inr (omega arith)))
 
   others : (e : ℕ) → e < 126 → (e < p) ⊎ (p + n ≤ e) → state_at (run fm T2) e ≡ state_at T e
-  others e h o = states_3 e ∙ marking-keeps 0 p n fit e o st (begins_whole st) T1 (let a = len_1 in omega arith) ∙ states_1 e h
+  others e h o = states_3 e ∙ (rw (marking_whole 0 p n) at (marking-keeps 0 p n fit e o T1 (let a = len_1 in omega arith) (suc (length st)))) ∙ states_1 e h
 
   own : (e : ℕ) → p ≤ e → e < p + n → state_at (run fm T2) e ≡ written
   unfolding and8

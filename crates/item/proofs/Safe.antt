@@ -1,15 +1,14 @@
--- Each operation touches one sector, so wherever the power fails in it the others are as they were. Assumes nothing.
+-- Each operation touches one sector, so wherever it is cut the others are as they were. Assumes nothing.
 use mathlib.Core.Path.{◌≡◌}
 use mathlib.Core.Logic.{◌⊎◌}
 use mathlib.Core.List.{List}
 use Prim.Native.Nat.{ℕ, ◌+◌, ◌*◌, ◌≤◌}
 use native.Mathlib.Omega.{arith}
+use lib.ListN.{take}
 use Rattle.word.specs.Number.{part}
 use Rattle.entry.specs.Fields.{span_of}
-use Rattle.flash.specs.Step.{Step, run}
-use Rattle.flash.specs.Torn.{Begins}
-use Rattle.flash.proofs.Begins.{begins_in}
-use Rattle.flash.proofs.Every.{every_append}
+use Rattle.flash.specs.Step.{run}
+use Rattle.flash.proofs.Every.{every_append, every_take}
 use Rattle.flash.proofs.Frame.{In, AllIn, part-kept}
 use Rattle.flash.proofs.Lent.{shift_in}
 use Rattle.flash.proofs.Words.{words_in}
@@ -32,7 +31,8 @@ copying_in base j r h = rw (copying-shift base j r) (shift_in base 4096 (copying
 pub erasing_in : (s i n : ℕ) → i + n ≤ 126 → AllIn (s * 4096) (s * 4096 + 4096) (erasing s i n)
 erasing_in s i n h = rw (erasing-shift s i n) (shift_in (s * 4096) 4096 _ (unmarking_fit i n h))
 
--- wherever the power fails in a copy, a part outside the target is as it was: the source above all
-pub copy_cut : (base j : ℕ) (r : List ℕ) → j + span_of r ≤ 126 → (cs : List Step) → Begins cs (copying base j r) → (p size : ℕ) (l : List ℕ) → (p + size ≤ base) ⊎ (base + 4096 ≤ p)
-    → part (run cs l) p size ≡ part l p size
-copy_cut base j r h cs b p size l o = part-kept base (base + 4096) p size cs l (begins_in base (base + 4096) cs _ b (copying_in base j r h)) o
+-- wherever a copy is cut, a part outside the target is as it was: the source above all
+pub copy_cut : (base j : ℕ) (r : List ℕ) → j + span_of r ≤ 126 → (c p size : ℕ) (l : List ℕ) → (p + size ≤ base) ⊎ (base + 4096 ≤ p)
+    → part (run (take c (copying base j r)) l) p size ≡ part l p size
+copy_cut base j r h c p size l o =
+    part-kept base (base + 4096) p size _ l (every_take (In base (base + 4096)) c _ (copying_in base j r h)) o

@@ -9,12 +9,11 @@ use Prim.Native.Nat.{ℕ, ◌+◌, ◌-◌, ◌*◌, ◌/◌, ◌%◌, ◌^◌, 
 use native.Mathlib.Omega.{arith}
 use lib.Dec.{eqb}
 use lib.ListN.{length, get_or, drop}
-use lib.Seq.{ext_get_or, get_or-drop}
+use lib.Seq.{ext_get_or, get_or-drop, take-length}
 use borrow.Author.Tests.{eqb-true}
 use Rattle.entry.specs.States.{state_at}
 use Rattle.flash.specs.Step.{run, and8}
 use Rattle.flash.proofs.And.{and8_none}
-use Rattle.flash.proofs.Begins.{begins_whole}
 use Rattle.flash.proofs.Frame.{length_run, run-other}
 use Rattle.flash.proofs.Order.{le-or-gt}
 use Rattle.flash.proofs.Small.{Small, run_small}
@@ -82,7 +81,7 @@ module _ (base j n : ℕ) (fits : j + n ≤ 126) (l : List ℕ) (long : base + 4
     size = length_run (marking base j n) l;
     bytes = run_small (marking base j n) l bytes;
     beside = λ i o. run-other (base + 32) (base + 64) (marking base j n) l i (marking_in base j n fits) o;
-    others = λ e o. marking-keeps base j n fits e o (marking base j n) (begins_whole _) l long;
+    others = λ e o. rw (take-length (marking base j n)) at (marking-keeps base j n fits e o l long (length (marking base j n)));
     own = marking_ends base j n fits l long;
   }
 
@@ -93,6 +92,6 @@ module _ (base j n : ℕ) (fits : j + n ≤ 126) (l : List ℕ) (long : base + 4
     size = length_run (unmarking base j n) l;
     bytes = run_small (unmarking base j n) l bytes;
     beside = λ i o. run-other (base + 32) (base + 64) (unmarking base j n) l i (unmarking_in base j n fits) o;
-    others = λ e o. unmarking-keeps base j n fits e o (unmarking base j n) (begins_whole _) l long;
+    others = λ e o. rw (take-length (unmarking base j n)) at (unmarking-keeps base j n fits e o l long (length (unmarking base j n)));
     own = λ e a b. unmarking_ends base j n fits l long e a b ∙ sym (and8_none (state_at (drop base l) e));
   }

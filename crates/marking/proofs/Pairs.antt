@@ -41,18 +41,6 @@ mask-not : (d e b : ℕ) → (b ≡ e / 4 → ⊥) → mask_of d e b ≡ 255
 unfolding mask_of
 mask-not d e b h = rw (ne_eqb b (e / 4) h)
 
--- each is a byte
-pub mask_lt : (d e b : ℕ) → mask_of d e b < 256
-unfolding mask_of
-mask_lt d e b = go (eqb b (e / 4))
-  where
-    go : (c : Bool) → cond c (own_byte d e) 255 < 256
-    go true = less (d * 2 ^ (2 * (e % 4)))
-      where
-        less : (n : ℕ) → 255 - n < 256
-        less n = omega arith
-    go false = omega arith
-
 module _ (base d e : ℕ) where
   abbrev b : ℕ
   b = e / 16 * 4

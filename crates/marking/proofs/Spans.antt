@@ -1,25 +1,23 @@
--- The state steps of a span: one for each entry. Wherever the power fails in them, within a step too, they leave the entries that are not of the span, and of
--- the span's the header is the first that a marking sets and the last that an unmarking does. Assumes nothing.
-use mathlib.Core.Path.{◌≡◌, refl, sym, ap, ◌∙◌}
+-- The state steps of a span: one for each entry. A cut of a marking is a marking of fewer entries, from the header on; a cut of an unmarking is one of the
+-- last entries. So wherever they are cut they leave the entries that are not of the span, and of the span's the header is the first that a marking sets
+-- and the last that an unmarking does. Assumes nothing.
+use mathlib.Core.Path.{◌≡◌, refl, ap, ◌∙◌}
 use mathlib.Core.Logic.{◌⊎◌, inl, inr, ⊎_elim}
-use mathlib.Core.Bool.{Bool, true, false}
 use mathlib.Core.List.{List, [], ◌∷◌, ◌++◌, reverse-cons, reverse-append, append_assoc}
 use Prim.Native.Nat.{ℕ, zero, suc, ◌+◌, ◌-◌, ◌≤◌, ◌<◌}
 use native.Mathlib.Nat.{add-zero}
 use native.Mathlib.Omega.{arith}
-use lib.Dec.{eqb}
-use lib.ListN.{length, drop, length-reverse}
-use borrow.Author.Tests.{eqb-true, eqb-false}
-use Rattle.entry.specs.States.{state_at, empty, written}
+use lib.ListN.{length, take, drop, length-reverse}
+use lib.Seq.{take_all, take_at}
+use Rattle.entry.specs.States.{state_at}
 use Rattle.flash.specs.Step.{Step, run, apply, and8}
-use Rattle.flash.specs.Torn.{Torn, Begins}
 use Rattle.flash.proofs.And.{and8_none}
-use Rattle.flash.proofs.Begins.{begins_append, begins_every, begins_none, begins_whole}
-use Rattle.flash.proofs.Every.{Every, every_reverse}
+use Rattle.flash.proofs.Every.{Every, every_take, every_reverse}
 use Rattle.flash.proofs.Frame.{In, AllIn, length-apply, length_run}
 use Rattle.flash.proofs.Laws.{run-append}
+use Rattle.flash.proofs.Order.{le-or-gt}
 use Rattle.marking.specs.Marking.{state_step, state_steps, marking, unmarking}
-use Rattle.marking.proofs.States.{step_sets, step_keeps, step-torn, torn-keeps, torn_sets}
+use Rattle.marking.proofs.States.{step_sets, step_keeps}
 
 -- ---- the steps as a list
 
@@ -72,11 +70,22 @@ module _ (base j n : ℕ) where
     pub unmarking_in : AllIn (base + 32) (base + 64) (unmarking base j n)
     unmarking_in = unmarking-every (In (base + 32) (base + 64)) (λ e a b. (omega arith, omega arith))
 
--- the last entries come first
+-- a cut: of a marking, a marking of the first entries; of an unmarking, one of the last
 module _ (base j k m : ℕ) where
+  pub marking-take : take k (marking base j (k + m)) ≡ marking base j k
+  unfolding marking
+  marking-take = rw (states-append base 1 j k m) (take_at (state_steps base 1 j k) (state_steps base 1 (j + k) m) k (length-states base 1 j k))
+
   pub unmarking-append : unmarking base j (k + m) ≡ unmarking base (j + k) m ++ unmarking base j k
   unfolding unmarking
   unmarking-append = rw (states-append base 3 j k m) (reverse-append (state_steps base 3 j k) (state_steps base 3 (j + k) m))
+
+  pub unmarking-take : take m (unmarking base j (k + m)) ≡ unmarking base (j + k) m
+  unmarking-take = rw unmarking-append (take_at (unmarking base (j + k) m) (unmarking base j k) m (length-unmarking base (j + k) m))
+
+-- a cut at the end is none
+pub marking_whole : (base j n : ℕ) → take (suc (length (marking base j n))) (marking base j n) ≡ marking base j n
+marking_whole base j n = take_all (suc (length (marking base j n))) (marking base j n) (omega arith)
 
 -- ---- what steps do to the state of entry e of the page at base
 
@@ -106,28 +115,18 @@ module _ (base j n : ℕ) (fits : j + n ≤ 126) (e : ℕ) (o : (e < j) ⊎ (j +
   other : (x : ℕ) → j ≤ x → x < j + n → e ≡ x → ⊥
   other x a b q = ⊎_elim (λ h. omega arith) (λ h. omega arith) o
 
-  -- a step leaves it, whole and torn
-  abbrev Spare : Step → Type 0
-  Spare s = Leaves base e s × ((c : Step) → Torn c s → Leaves base e c)
+  marking-leaves : Every (Leaves base e) (marking base j n)
+  marking-leaves = marking-every base j n (Leaves base e) (λ x a b l h. step_keeps base 1 x l h (omega arith) (omega arith) e (other x a b))
 
-  spare : (d x : ℕ) → d ≤ 3 → j ≤ x → x < j + n → Spare (state_step base d x)
-  spare d x h a b = (λ l long. step_keeps base d x l long h (omega arith) e (other x a b), λ c t l long. torn-keeps base d x l long h (omega arith) c t e (other x a b))
+  unmarking-leaves : Every (Leaves base e) (unmarking base j n)
+  unmarking-leaves = unmarking-every base j n (Leaves base e) (λ x a b l h. step_keeps base 3 x l h (omega arith) (omega arith) e (other x a b))
 
-  leave : (cs ss : List Step) → Begins cs ss → Every Spare ss → Every (Leaves base e) cs
-  leave = begins_every Spare (Leaves base e) (λ s h. h.0) (λ c s t h. h.1 c t)
+  -- any cut leaves the other entries
+  pub marking-keeps : (l : List ℕ) → base + 4096 ≤ length l → (c : ℕ) → state_at (drop base (run (take c (marking base j n)) l)) e ≡ state_at (drop base l) e
+  marking-keeps l long c = run-leaves base e _ l long (every_take (Leaves base e) c _ marking-leaves)
 
-  marking-leaves : (cs : List Step) → Begins cs (marking base j n) → Every (Leaves base e) cs
-  marking-leaves cs b = leave cs (marking base j n) b (marking-every base j n Spare (λ x f t. spare 1 x (omega arith) f t))
-
-  unmarking-leaves : (cs : List Step) → Begins cs (unmarking base j n) → Every (Leaves base e) cs
-  unmarking-leaves cs b = leave cs (unmarking base j n) b (unmarking-every base j n Spare (λ x f t. spare 3 x (omega arith) f t))
-
-  -- wherever the power fails, the other entries are left
-  pub marking-keeps : (cs : List Step) → Begins cs (marking base j n) → (l : List ℕ) → base + 4096 ≤ length l → state_at (drop base (run cs l)) e ≡ state_at (drop base l) e
-  marking-keeps cs b l long = run-leaves base e cs l long (marking-leaves cs b)
-
-  pub unmarking-keeps : (cs : List Step) → Begins cs (unmarking base j n) → (l : List ℕ) → base + 4096 ≤ length l → state_at (drop base (run cs l)) e ≡ state_at (drop base l) e
-  unmarking-keeps cs b l long = run-leaves base e cs l long (unmarking-leaves cs b)
+  pub unmarking-keeps : (l : List ℕ) → base + 4096 ≤ length l → (c : ℕ) → state_at (drop base (run (take c (unmarking base j n)) l)) e ≡ state_at (drop base l) e
+  unmarking-keeps l long c = run-leaves base e _ l long (every_take (Leaves base e) c _ unmarking-leaves)
 
 -- ---- the entries of the span
 
@@ -159,94 +158,33 @@ module _ (base j n : ℕ) (fits : j + n ≤ 126) (l : List ℕ) (long : base + 4
   -- each is set once all is done
   pub marking_ends : state_at (drop base (run (marking base j n) l)) e ≡ and8 (state_at (drop base l) e) 2
   marking_ends =
-      rw marking-split (run_sets base e 2 (marking base j k) (state_step base 1 e) (marking base (e + 1) m) l long (marking-leaves base j k (omega arith) e (inr (omega arith)) (marking base j k) (begins_whole _))
-      (λ x h. step_sets base 1 e x h (omega arith) (omega arith)) (marking-leaves base (e + 1) m (omega arith) e (inl (omega arith)) (marking base (e + 1) m) (begins_whole _)))
+      rw marking-split (run_sets base e 2 (marking base j k) (state_step base 1 e) (marking base (e + 1) m) l long (marking-leaves base j k (omega arith) e (inr (omega arith)))
+      (λ x h. step_sets base 1 e x h (omega arith) (omega arith)) (marking-leaves base (e + 1) m (omega arith) e (inl (omega arith))))
 
   pub unmarking_ends : state_at (drop base (run (unmarking base j n) l)) e ≡ 0
   unmarking_ends =
-      rw unmarking-split (run_sets base e 0 (unmarking base (e + 1) m) (state_step base 3 e) (unmarking base j k) l long (unmarking-leaves base (e + 1) m (omega arith) e (inl (omega arith)) (unmarking base (e + 1) m) (begins_whole _))
-      (λ x h. step_sets base 3 e x h (omega arith) (omega arith)) (unmarking-leaves base j k (omega arith) e (inr (omega arith)) (unmarking base j k) (begins_whole _)) ∙ and8_none (state_at (drop base l) e))
+      rw unmarking-split (run_sets base e 0 (unmarking base (e + 1) m) (state_step base 3 e) (unmarking base j k) l long (unmarking-leaves base (e + 1) m (omega arith) e (inl (omega arith)))
+      (λ x h. step_sets base 3 e x h (omega arith) (omega arith)) (unmarking-leaves base j k (omega arith) e (inr (omega arith))) ∙ and8_none (state_at (drop base l) e))
 
--- ---- the header of the span, its first entry
-
--- two bits, of which the first step may clear the lower one
-lower_bit : (v : ℕ) → v < 4 → and8 2 v ≡ 2 → (and8 3 v ≡ 2) ⊎ (and8 3 v ≡ 3)
-unfolding and8
-lower_bit zero h e = absurd (omega arith)
-lower_bit (suc zero) h e = absurd (omega arith)
-lower_bit (suc (suc zero)) h e = inl refl
-lower_bit (suc (suc (suc zero))) h e = inr refl
-lower_bit (suc (suc (suc (suc v)))) h e = absurd (omega arith)
-
--- and the last step the upper one
-upper-bit : (v : ℕ) → v < 4 → (and8 2 v ≡ 2) ⊎ (and8 2 v ≡ 0)
-unfolding and8
-upper-bit zero h = inr refl
-upper-bit (suc zero) h = inr refl
-upper-bit (suc (suc zero)) h = inl refl
-upper-bit (suc (suc (suc zero))) h = inl refl
-upper-bit (suc (suc (suc (suc v)))) h = absurd (omega arith)
-
-module _ (base j : ℕ) (l : List ℕ) (long : base + 4096 ≤ length l) where
-  -- a marking that was begun has set the header, where it was Empty, or changed nothing: one bit cannot be torn
-  pub marking-begun : (n : ℕ) → 1 ≤ n → j + n ≤ 126 → (d : Step) (ds : List Step) → Begins (d ∷ ds) (marking base j n) → state_at (drop base l) j ≡ empty
-      → (state_at (drop base (run (d ∷ ds) l)) j ≡ written) ⊎ ((x : ℕ) → state_at (drop base (run (d ∷ ds) l)) x ≡ state_at (drop base l) x)
-  unfolding marking state_steps Begins run and8
-  marking-begun zero some fits d ds b q = absurd (omega arith)
-  marking-begun (suc n) some fits d ds (inl (e, b)) q =
-      inl (rw e (marking-keeps base (j + 1) n (omega arith) j (inl (omega arith)) ds b (apply (state_step base 1 j) l) (rw (length-apply (state_step base 1 j) l) long)
-      ∙ step_sets base 1 j l long (omega arith) (omega arith) ∙ rw q))
-  marking-begun (suc n) some fits d ds (inr (e, t)) q = rw e (set (torn_sets base 1 j l long (omega arith) (omega arith) d t))
+module _ (base j n : ℕ) (fits : j + n ≤ 126) (l : List ℕ) (long : base + 4096 ≤ length l) where
+  -- a marking that was begun has set the header
+  pub marking_first : 1 ≤ n → (c : ℕ) → state_at (drop base (run (take (suc c) (marking base j n)) l)) j ≡ and8 (state_at (drop base l) j) 2
+  marking_first some c = ⊎_elim whole begun (le-or-gt n (suc c))
     where
-      set : (v : ℕ) × (v < 4) × (and8 2 v ≡ 2) × (state_at (drop base (apply d l)) j ≡ and8 (state_at (drop base l) j) v)
-          → (state_at (drop base (apply d l)) j ≡ written) ⊎ ((x : ℕ) → state_at (drop base (apply d l)) x ≡ state_at (drop base l) x)
-      set (v, h, k, s) = ⊎_elim (λ z. inl (s ∙ rw q z)) (λ z. inr (λ x. same (s ∙ rw q z) x (eqb x j) refl)) (lower_bit v h k)
-        where
-          same : state_at (drop base (apply d l)) j ≡ 3 → (x : ℕ) (p : Bool) → eqb x j ≡ p → state_at (drop base (apply d l)) x ≡ state_at (drop base l) x
-          same z x true p = rw (eqb-true x j p) (z ∙ sym q)
-          same z x false p = torn-keeps base 1 j l long (omega arith) (omega arith) d t x (eqb-false x j p)
+      whole : n ≤ suc c → state_at (drop base (run (take (suc c) (marking base j n)) l)) j ≡ and8 (state_at (drop base l) j) 2
+      whole h = rw (take_all (suc c) (marking base j n) (rw (length-marking base j n) h)) (marking_ends base j n fits l long j (omega arith) (omega arith))
 
-  -- an unmarking that was begun has left the header, where it was Written, or all of the span is Erased
-  pub unmarking-begun : (n : ℕ) → 1 ≤ n → j + n ≤ 126 → (cs : List Step) → Begins cs (unmarking base j n) → state_at (drop base l) j ≡ written
-      → (state_at (drop base (run cs l)) j ≡ written) ⊎ ((e : ℕ) → j ≤ e → e < j + n → state_at (drop base (run cs l)) e ≡ 0)
-  unmarking-begun zero some fits cs b q = absurd (omega arith)
-  unmarking-begun (suc n) some fits cs b q =
-      ⊎_elim (λ h. inl (unmarking-keeps base (j + 1) n (omega arith) j (inl (omega arith)) cs h l long ∙ q))
-      (λ h. rw (h.2, run-append behind (h.0 ∷ h.1) l) (last h.0 h.1 h.3)) (begins_append cs behind (state_step base 3 j ∷ []) (rw split at b))
-    where
-      behind : List Step
-      behind = unmarking base (j + 1) n
+      begun : suc c < n → state_at (drop base (run (take (suc c) (marking base j n)) l)) j ≡ and8 (state_at (drop base l) j) 2
+      begun h =
+          let e : n ≡ suc c + (n - suc c) = omega arith in
+          let cut : take (suc c) (marking base j n) ≡ marking base j (suc c) = ap (λ (x : ℕ). take (suc c) (marking base j x)) e ∙ marking-take base j (suc c) (n - suc c) in
+          rw cut (marking_ends base j (suc c) (omega arith) l long j (omega arith) (omega arith))
 
-      split : unmarking base j (suc n) ≡ unmarking base (j + 1) n ++ (state_step base 3 j ∷ [])
-      split = unfold unmarking state_steps in reverse-cons (state_step base 3 j) (state_steps base 3 (j + 1) n)
-
-      m : List ℕ
-      m = run behind l
-
-      long_m : base + 4096 ≤ length m
-      long_m = rw (length_run behind l) long
-
-      at_j : state_at (drop base m) j ≡ written
-      at_j = unmarking-keeps base (j + 1) n (omega arith) j (inl (omega arith)) behind (begins_whole behind) l long ∙ q
-
-      torn : (c : Step) → Torn c (state_step base 3 j) → (state_at (drop base (apply c m)) j ≡ written) ⊎ ((e : ℕ) → j ≤ e → e < j + suc n → state_at (drop base (apply c m)) e ≡ 0)
-      torn c t = go (torn_sets base 3 j m long_m (omega arith) (omega arith) c t)
-        where
-          go : (v : ℕ) × (v < 4) × (and8 0 v ≡ 0) × (state_at (drop base (apply c m)) j ≡ and8 (state_at (drop base m) j) v)
-              → (state_at (drop base (apply c m)) j ≡ written) ⊎ ((e : ℕ) → j ≤ e → e < j + suc n → state_at (drop base (apply c m)) e ≡ 0)
-          go (v, h, k, s) = ⊎_elim (λ z. inl (s ∙ rw at_j z)) (λ z. inr (λ e f g. gone (s ∙ rw at_j z) e f g (eqb e j) refl)) (upper-bit v h)
-            where
-              gone : state_at (drop base (apply c m)) j ≡ 0 → (e : ℕ) → j ≤ e → e < j + suc n → (p : Bool) → eqb e j ≡ p → state_at (drop base (apply c m)) e ≡ 0
-              gone z e f g true p = rw (eqb-true e j p) z
-              gone z e f g false p =
-                  let ne = eqb-false e j p in
-                  torn-keeps base 3 j m long_m (omega arith) (omega arith) c t e ne ∙ unmarking_ends base (j + 1) n (omega arith) l long e (omega arith) (omega arith)
-
-      last : (d : Step) (ds : List Step) → Begins (d ∷ ds) (state_step base 3 j ∷ [])
-          → (state_at (drop base (run (d ∷ ds) m)) j ≡ written) ⊎ ((e : ℕ) → j ≤ e → e < j + suc n → state_at (drop base (run (d ∷ ds) m)) e ≡ 0)
-      last d ds b = unfold run Begins in go b
-        where
-          go : ((d ≡ state_step base 3 j) × Begins ds []) ⊎ ((ds ≡ []) × Torn d (state_step base 3 j))
-              → (state_at (drop base (run (d ∷ ds) m)) j ≡ written) ⊎ ((e : ℕ) → j ≤ e → e < j + suc n → state_at (drop base (run (d ∷ ds) m)) e ≡ 0)
-          go (inl (e, h)) = rw (e, begins_none ds h) (unfold run in torn (state_step base 3 j) (step-torn base 3 j m long_m (omega arith) (omega arith)))
-          go (inr (e, t)) = rw e (unfold run in torn d t)
+  -- an unmarking that has not ended has left it
+  pub unmarking-before : (c : ℕ) → c < length (unmarking base j n) → state_at (drop base (run (take c (unmarking base j n)) l)) j ≡ state_at (drop base l) j
+  unmarking-before c h =
+      let g : c < n = rw (length-unmarking base j n) at h in
+      let e : n ≡ n - c + c = omega arith in
+      let cut : take c (unmarking base j n) ≡ unmarking base (j + (n - c)) c = ap (λ (x : ℕ). take c (unmarking base j x)) e ∙ unmarking-take base j (n - c) c in
+      let behind : Every (Leaves base j) (unmarking base (j + (n - c)) c) = unmarking-leaves base (j + (n - c)) c (omega arith) j (inl (omega arith)) in
+      rw cut (run-leaves base j (unmarking base (j + (n - c)) c) l long behind)

@@ -1,24 +1,30 @@
--- Demand 3 with a torn step at each cut, from its general form: of a store that recovery leaves unchanged all items are left. Assumes nothing.
+-- The general form, and demand 3, for cuts: recoveries cut one after the other are a list of numbers of steps. Assumes nothing.
 use mathlib.Core.Path.{◌∙◌, ◌≡◌, ap}
-use mathlib.Core.List.{List}
-use Prim.Native.Nat.{ℕ}
+use mathlib.Core.List.{List, [], ◌∷◌}
+use Prim.Native.Nat.{suc, zero, ℕ}
+use lib.ListN.{take}
 use Rattle.flash.specs.Step.{run}
-use Rattle.stages.specs.Stages.{recovery}
-use Rattle.power.specs.Cuts.{PowerSafe}
-use Rattle.power.specs.Demand3.{Safe, Store, held, recovered}
-use Rattle.power.specs.General.{Leaves}
-use Rattle.power.proofs.General.{general}
-use Rattle.power.proofs.Plain.{plain_same}
-use Rattle.power.proofs.Stores.{no_step, unsettled}
+use Rattle.reclaim.specs.Reclaim.{reclaiming}
+use Rattle.power.specs.Cuts.{Begun, PowerSafe}
+use Rattle.power.specs.Demand3.{failing, recoveries}
+use Rattle.power.specs.General.{General}
+use Rattle.power.proofs.Demand3.{safe_by}
+use Rattle.power.proofs.General.{general-cuts}
+use Rattle.power.proofs.Stores.{unsettled}
 
-unmoved : (L : List ℕ) → Store L → recovered L ≡ L
-unfolding recovered recovery run
-unmoved L S = rw (S.premises.accepts, plain_same L, no_step L S)
+begun-cuts : (n : ℕ) (l m : List ℕ) → Begun n l m → (ks : List ℕ) × (m ≡ recoveries ks l)
+unfolding Begun recoveries
+begun-cuts zero l m e = ([], e)
+begun-cuts (suc n) l m (x, k, b) = let ks = begun-cuts n x m b in (k.0 ∷ ks.0, ks.1 ∙ ap (recoveries ks.0) k.1)
 
--- what is left is what was held
-safe_by : (L m : List ℕ) → Store L → Leaves L m → Safe L m
-safe_by L m S H = record { accepts = H.accepts; items = λ x. H.items x ∙ ap (held x) (unmoved L S); once = H.once; free = H.free }
+-- the general form
+pub general : General
+unfolding failing
+general l U x m k n b =
+    let ks = begun-cuts n x m b in
+    let e : m ≡ recoveries ks.0 (run (take k.0 (reclaiming l)) l) = ks.1 ∙ ap (recoveries ks.0) k.1 in
+    rw e (general-cuts l U k.0 ks.0)
 
--- the top statement
+-- demand 3
 pub power-safe : PowerSafe
-power-safe l S x m c n b = safe_by l m S (general l (unsettled l S) x m c n b)
+power-safe l S x m k n b = safe_by l m S (general l (unsettled l S) x m k n b)

@@ -1,26 +1,23 @@
--- Demand 3 as document 01 words it, cut between two steps: the case without a torn step. Assumes nothing.
-use mathlib.Core.Path.{refl}
-use mathlib.Core.List.{List, [], ◌∷◌}
+-- Demand 3 from its general form: of a store that recovery leaves unchanged all items are left. Assumes nothing.
+use mathlib.Core.Path.{◌∙◌, ◌≡◌, ap}
+use mathlib.Core.List.{List}
 use Prim.Native.Nat.{ℕ}
-use lib.ListN.{length, take}
-use Rattle.flash.proofs.Begins.{begins_take}
-use Rattle.answer.specs.Staged.{untag}
-use Rattle.stages.specs.Stages.{recovery}
 use Rattle.flash.specs.Step.{run}
-use Rattle.reclaim.specs.Reclaim.{reclaiming}
-use Rattle.power.specs.Cuts.{Begun}
-use Rattle.power.specs.Demand3.{Demand3, failing, recoveries}
-use Rattle.power.proofs.Cuts.{power-safe}
+use Rattle.stages.specs.Stages.{recovery}
+use Rattle.power.specs.Demand3.{Demand3, Safe, Store, failing, held, recovered}
+use Rattle.power.specs.General.{Leaves}
+use Rattle.power.proofs.General.{general-cuts}
+use Rattle.power.proofs.Plain.{plain_same}
+use Rattle.power.proofs.Stores.{no_step, unsettled}
 
--- recoveries cut after so many steps each
-begun_whole : (ks l : List ℕ) → Begun (length ks) l (recoveries ks l)
-unfolding Begun recoveries
-begun_whole [] l = refl
-begun_whole (k ∷ ks) l = (run (take k (untag (recovery l))) l, (take k (untag (recovery l)), begins_take k _, refl), begun_whole ks (run (take k (untag (recovery l))) l))
+unmoved : (L : List ℕ) → Store L → recovered L ≡ L
+unfolding recovered recovery run
+unmoved L S = rw (S.premises.accepts, plain_same L, no_step L S)
+
+-- what is left is what was held
+pub safe_by : (L m : List ℕ) → Store L → Leaves L m → Safe L m
+safe_by L m S H = record { accepts = H.accepts; items = λ x. H.items x ∙ ap (held x) (unmoved L S); once = H.once; free = H.free }
 
 -- the demand
 pub demand3 : Demand3
-unfolding failing
-demand3 l S c ks =
-    power-safe l S (run (take c (reclaiming l)) l) (recoveries ks (run (take c (reclaiming l)) l)) (take c (reclaiming l), begins_take c _, refl) (length ks)
-    (begun_whole ks (run (take c (reclaiming l)) l))
+demand3 L S c ks = safe_by L (failing c ks L) S (general-cuts L (unsettled L S) c ks)

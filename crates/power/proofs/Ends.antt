@@ -1,23 +1,22 @@
 -- The source is erased, in the end: the target holds its items, or it had none. Assumes nothing.
 use mathlib.Core.Path.{◌∙◌, ◌≡◌}
-use mathlib.Core.Logic.{inr, ⊎_elim}
+use mathlib.Core.Logic.{inr}
 use mathlib.Core.Bool.{true}
 use mathlib.Core.List.{List, [], ◌∷◌}
-use Prim.Native.Nat.{◌*◌, ◌+◌, ◌<◌, ◌≤◌, ℕ}
+use Prim.Native.Nat.{◌*◌, ◌+◌, ◌<◌, ◌≤◌, suc, zero, ℕ}
 use native.Mathlib.Omega.{arith}
-use lib.ListN.{get_or, length}
+use lib.ListN.{get_or, length, take}
+use lib.Seq.{take-nil}
 use Rattle.page.specs.declared.state.PageState.TheVariants.{Full}
 use Rattle.page.specs.State.{is_free, state_of}
 use Rattle.page.specs.Walk.{Laid, items_of}
 use Rattle.flash.specs.Step.{Step, erase, run, sector}
-use Rattle.flash.specs.Torn.{Begins}
-use Rattle.flash.proofs.Begins.{begins_erase, begins_none}
 use Rattle.flash.proofs.Frame.{length_run, sector-kept, erase_in}
 use Rattle.lists.proofs.Member.{true≢false}
 use Rattle.table.specs.Table.{sectors_of}
 use Rattle.power.proofs.State.{AllFree, Good, Side, State, Target, done, gone}
 use Rattle.relocate.proofs.Copies.{Settled}
-use Rattle.power.proofs.Runs.{run_none}
+use Rattle.power.proofs.Runs.{run-nil}
 use Rattle.item.proofs.Fresh.{blank_free}
 use Rattle.flash.proofs.Erased.{erased-blank}
 use Rattle.item.proofs.Shape.{raws}
@@ -76,5 +75,6 @@ module _ (L : List ℕ) (s : ℕ) (G : Good L s) (small : (i : ℕ) → get_or L
         (done t q e_side e_free (e_target t q T) W E, done_final L s G small le t q e_side e_free (e_target t q T) W E)
 
   -- one step more
-  pub one_step : (l : List ℕ) → State L s l → State L s (run (erase s ∷ []) l) → (cs : List Step) → Begins cs (erase s ∷ []) → State L s (run cs l)
-  one_step l a b cs c = ⊎_elim (λ e. rw (run_none cs l e) a) (λ e. rw (e.1, begins_none e.0 e.2) b) (begins_erase cs s [] c)
+  pub one_step : (l : List ℕ) → State L s l → State L s (run (erase s ∷ []) l) → (k : ℕ) → State L s (run (take k (erase s ∷ [])) l)
+  one_step l a b zero = rw (run-nil l) a
+  one_step l a b (suc k) = rw (take-nil {A = Step} k) b

@@ -1,4 +1,4 @@
--- Erasing one item, whose header's state comes last: wherever the power fails, the page's items are the same, or the same but this one. Assumes nothing.
+-- Erasing one item, whose header's state word comes last: before it the page's items are the same, and after it the same but this one. Assumes nothing.
 use mathlib.Core.Path.{◌∙◌, ◌≡◌, ap, refl, sym}
 use mathlib.Core.Logic.{◌⊎◌, inl, inr, ⊎_elim}
 use mathlib.Core.Bool.{Bool, false, not, true}
@@ -6,7 +6,8 @@ use mathlib.Core.List.{List}
 use Prim.Native.Nat.{◌*◌, ◌+◌, ◌<◌, ◌≤◌, ℕ}
 use native.Mathlib.Omega.{arith}
 use lib.Dec.{eqb}
-use lib.ListN.{drop, length}
+use lib.ListN.{drop, length, take}
+use lib.Seq.{take_all, take-length}
 use borrow.Author.Tests.{eqb-false, eqb-true, ne_eqb}
 use Rattle.word.specs.Number.{part}
 use Rattle.entry.specs.States.{state_at}
@@ -16,16 +17,16 @@ use Rattle.page.specs.declared.state.PageState.TheVariants.{Active, Blank, Corru
 use Rattle.page.specs.State.{is_free, state_of}
 use Rattle.page.specs.Walk.{Laid, is_item, items_of, laid_at}
 use Rattle.flash.specs.Step.{Step, run, sector}
-use Rattle.flash.specs.Torn.{Begins}
-use Rattle.flash.proofs.Begins.{begins_fit, begins_in, begins_shift, begins_whole}
 use Rattle.flash.proofs.Erased.{length-sector}
-use Rattle.flash.proofs.Frame.{AllIn, drop-kept, length_run, part-kept, sector-kept}
-use Rattle.flash.proofs.Lent.{sector-local}
+use Rattle.flash.proofs.Every.{every_take}
+use Rattle.flash.proofs.Frame.{AllIn, In, drop-kept, length_run, part-kept, sector-kept}
+use Rattle.flash.proofs.Lent.{Fit, sector-local, take-shift}
+use Rattle.flash.proofs.Order.{le-or-gt}
 use Rattle.marking.specs.Marking.{unmarking}
 use Rattle.item.specs.Erase.{erasing}
 use Rattle.item.proofs.Local.{erasing-shift, unmarking_fit}
 use Rattle.item.proofs.Safe.{erasing_in}
-use Rattle.marking.proofs.Spans.{unmarking-begun, unmarking_ends, unmarking_in, unmarking-keeps}
+use Rattle.marking.proofs.Spans.{unmarking-before, unmarking_ends, unmarking_in, unmarking-keeps}
 use Rattle.lists.proofs.Search.{in_keep}
 use Rattle.lists.proofs.Member.{◌∈◌, true≢false}
 use Rattle.table.specs.Table.{sectors_of}
@@ -67,7 +68,7 @@ Stands l x = (x.sector < sectors_of l) × (record { entry = x.entry; raw = x.raw
 abbrev pub erasure : Found → List Step
 erasure x = erasing x.sector x.entry (span_of x.raw)
 
--- what a beginning of them leaves: the other sectors, and the page but its items
+-- what any number of them leaves: the other sectors, and the page but its items
 pub record Erases (l : List ℕ) (x : Found) (m : List ℕ) : Type 0 where
   pub len : length m ≡ length l
   pub others : (u : ℕ) → (u ≡ x.sector → ⊥) → sector u m ≡ sector u l
@@ -98,9 +99,6 @@ module _ (l : List ℕ) (x : Found) (S : Stands l x) where
   fits : e + n ≤ 126
   fits = let q = span in let a = on_page.1.is.ends in omega arith
 
-  some : 1 ≤ n
-  some = let q = span in let a = on_page.1.is.some in omega arith
-
   long : 4096 ≤ length T
   long = let q = length-sector s l in let h = S.0 in omega arith
 
@@ -114,50 +112,50 @@ module _ (l : List ℕ) (x : Found) (S : Stands l x) where
   abbrev steps : List Step
   steps = unmarking 0 e n
 
-  local : (cs : List Step) → Begins cs (erasure x) → (ds : List Step) × Begins ds steps × (sector s (run cs l) ≡ run ds T)
-  local cs b =
-      let d = begins_shift (s * 4096) cs steps (rw (erasing-shift s e n) at b) in
-      (d.0, d.2, ap (λ (z : List Step). sector s (run z l)) d.1 ∙ sector-local s d.0 l (begins_fit 4096 d.0 steps d.2 (unmarking_fit e n fits)))
+  local : (k : ℕ) → sector s (run (take k (erasure x)) l) ≡ run (take k steps) T
+  local k =
+      rw (erasing-shift s e n, take-shift (s * 4096) k steps) (sector-local s (take k steps) l (every_take (Fit 4096) k steps (unmarking_fit e n fits)))
 
-  within : (ds : List Step) → Begins ds steps → AllIn 32 64 ds
-  within ds b = begins_in 32 64 ds steps b (unmarking_in 0 e n fits)
+  within : (k : ℕ) → AllIn 32 64 (take k steps)
+  within k = every_take (In 32 64) k steps (unmarking_in 0 e n fits)
 
-  rest : (ds : List Step) → Begins ds steps → drop 64 (run ds T) ≡ drop 64 T
-  rest ds b = drop-kept 32 64 ds T (within ds b)
+  rest : (k : ℕ) → drop 64 (run (take k steps) T) ≡ drop 64 T
+  rest k = drop-kept 32 64 (take k steps) T (within k)
 
-  state : (ds : List Step) → Begins ds steps → state_of (run ds T) ≡ state_of T
-  state ds b = state-kept T ds (within ds b) on_page.0
+  state : (k : ℕ) → state_of (run (take k steps) T) ≡ state_of T
+  state k = state-kept T (take k steps) (within k) on_page.0
 
-  -- wherever the power fails, states of entries alone are changed
-  pub erases : (cs : List Step) → Begins cs (erasure x) → Erases l x (run cs l)
-  erases cs b = record {
-    len = length_run cs l;
-    others = λ u ne. sector-kept u s cs l ne (begins_in (s * 4096) (s * 4096 + 4096) cs _ b (erasing_in s e n fits));
-    state = (let d = local cs b in rw d.2 (state d.0 d.1));
+  -- any number of steps changes states of entries alone
+  pub erases : (k : ℕ) → Erases l x (run (take k (erasure x)) l)
+  erases k = record {
+    len = length_run (take k (erasure x)) l;
+    others = λ u ne. sector-kept u s (take k (erasure x)) l ne (every_take (In (s * 4096) (s * 4096 + 4096)) k (erasure x) (erasing_in s e n fits));
+    state = rw (local k) (state k);
   }
 
-  -- the other entries
-  same : (ds : List Step) → Begins ds steps → (i : ℕ) → (i < e) ⊎ (e + n ≤ i) → state_at (run ds T) i ≡ state_at T i
-  same ds b i o = unmarking-keeps 0 e n fits i o ds b T long
+  -- the other entries, while the steps are made
+  same : (k i : ℕ) → (i < e) ⊎ (e + n ≤ i) → state_at (run (take k steps) T) i ≡ state_at T i
+  same k i o = unmarking-keeps 0 e n fits i o T long k
 
-  -- the items are the same while the header stands, torn payload states or not, and then the same but this one
-  pub before-or-after : (cs : List Step) → Begins cs (erasure x)
-      → (items_of (sector x.sector (run cs l)) ≡ items_of (sector x.sector l)) ⊎ (items_of (sector x.sector (run cs l)) ≡ but x.entry (items_of (sector x.sector l)))
-  before-or-after cs b = let d = local cs b in rw d.2 (go d.0 d.1)
+  whole : (k : ℕ) → length steps ≤ k → take k (erasure x) ≡ erasure x
+  whole k h = rw (erasing-shift s e n, take-shift (s * 4096) k steps, take_all k steps h)
+
+  -- before the last one the items are the same, then all is done
+  pub before : (k : ℕ) → (items_of (sector x.sector (run (take k (erasure x)) l)) ≡ items_of (sector x.sector l)) ⊎ (take k (erasure x) ≡ erasure x)
+  before k = ⊎_elim (λ h. inr (whole k h)) (λ h. inl (rw (local k) (kept h))) (le-or-gt (length steps) k)
     where
-      go : (ds : List Step) → Begins ds steps → (items_of (run ds T) ≡ items_of T) ⊎ (items_of (run ds T) ≡ but e (items_of T))
-      go ds b =
-          let h = on_page.1.is.is_written in
-          ⊎_elim (λ z. inl (items_kept T (run ds T) (rest ds b) e n is span (same ds b) (z ∙ sym h) laid (state ds b)))
-          (λ z. inr (items-gone T (run ds T) (rest ds b) e n is span (same ds b) z laid (state ds b)))
-          (unmarking-begun 0 e T long n some fits ds b h)
+      kept : k < length steps → items_of (run (take k steps) T) ≡ items_of T
+      kept h = items_kept T (run (take k steps) T) (rest k) e n is span (same k) (unmarking-before 0 e n fits T long k h) laid (state k)
 
-  -- after them all they are the same but this one
+  -- after it they are the same but this one
   pub after : items_of (sector x.sector (run (erasure x) l)) ≡ but x.entry (items_of (sector x.sector l))
-  after = rw at_s (items-gone T (run steps T) (rest steps (begins_whole steps)) e n is span (same steps (begins_whole steps)) (unmarking_ends 0 e n fits T long) laid (state steps (begins_whole steps)))
+  after = rw (← whole k (omega arith), local k) (items-gone T (run (take k steps) T) (rest k) e n is span (same k) gone laid (state k))
     where
-      at_s : sector s (run (erasure x) l) ≡ run steps T
-      at_s = rw (erasing-shift s e n) (sector-local s steps l (unmarking_fit e n fits))
+      k : ℕ
+      k = length steps
+
+      gone : (i : ℕ) → e ≤ i → i < e + n → state_at (run (take k steps) T) i ≡ 0
+      gone i a b = rw (take-length steps) (unmarking_ends 0 e n fits T long i a b)
 
   -- and every other item still stands
   pub stands_after : (y : Found) → Stands l y → (y.sector ≡ x.sector → y.entry ≡ x.entry → ⊥) → Stands (run (erasure x) l) y

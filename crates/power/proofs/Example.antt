@@ -1,6 +1,5 @@
 -- Document 01's example is a store of demand 3. Each part of it is computed once and cited. Assumes nothing.
 use mathlib.Core.Path.{◌≡◌, refl, ◌∙◌, ap}
-use mathlib.Core.Logic.{inl, inr}
 use mathlib.Core.Bool.{Bool, true, false, ◌&&◌, cond}
 use mathlib.Core.List.{List, [], ◌∷◌, flat_map}
 use Prim.Native.Nat.{ℕ, zero, suc, ◌+◌, ◌*◌, ◌≤◌, ◌<◌}
@@ -17,15 +16,7 @@ use Rattle.page.specs.declared.state.PageState.TheVariants.{Full}
 use Rattle.page.specs.Record.{seen_of}
 use Rattle.page.specs.State.{all_ones, word_state, header_right, state_of}
 use Rattle.page.specs.Walk.{Laid, right_header, is_item, walk}
-use Rattle.flash.specs.Step.{Step, program, and8, put, and_word, apply, sector, run}
-use Rattle.flash.specs.Torn.{Torn, Begins}
-use Rattle.flash.specs.Words.{words}
-use Rattle.flash.proofs.Every.{every_one}
-use Rattle.flash.proofs.Frame.{In, sector-kept}
-use Rattle.item.specs.Initialise.{body, bytes4, header, initialising}
-use Rattle.item.specs.Mark.{mark_freeing}
-use Rattle.item.proofs.Clearing.{clearing-blank}
-use Rattle.relocate.specs.Move.{moving}
+use Rattle.flash.specs.Step.{sector, run}
 use Rattle.lists.specs.Lists.{keep, every, some_of, sum_of, greatest, better, best, insert_by, sort_by, least_from, ascend_to, ascend_from, ascending}
 use Rattle.lists.proofs.Member.{true≢false}
 use Rattle.table.specs.declared.Page.{Page}
@@ -41,7 +32,7 @@ use Rattle.stages.specs.Stages.{last_stages, after_order, recovering, too_high, 
 use Rattle.plan.specs.declared.Plan.TheVariants.{Move}
 use Rattle.plan.specs.Plan.{points, chosen, plan_to, plan_with, plan}
 use Rattle.plan.specs.Occurs.{Met}
-use Rattle.reclaim.specs.Reclaim.{plan_steps, reclaiming}
+use Rattle.reclaim.specs.Reclaim.{reclaiming}
 use Rattle.power.specs.Demand3.{Premises, Store, stored, total}
 use Rattle.power.specs.Example.{first, second, third, page, image, Example}
 use Rattle.power.proofs.Same.{same_eq, same_refl}
@@ -252,42 +243,8 @@ chooses : Met (pages image) full
 unfolding some_of chosen best better keep greatest points
 chooses = record { none_free = rw pages-are; none_active = rw pages-are; choice = rw pages-are }
 
-moves : reclaiming image ≡ plan_steps image (Move 1 0 8)
-unfolding reclaiming
-moves = rw (whole, plan_is)
-
--- ---- reclaim cut inside a word
-
-abbrev freed : List ℕ
-freed = run (mark_freeing 1 ∷ []) image
-
-blank_0 : all_ones (sector 0 freed) ≡ true
-blank_0 = rw (sector-kept 0 1 (mark_freeing 1 ∷ []) image (λ e. omega arith) (every_one (In 4096 8192) _ (omega arith, omega arith))) all_ones
-  where
-    all_ones : all_ones (sector 0 image) ≡ true
-    all_ones = unfold sector all_ones in refl
-
--- after the mark the new page's sequence is written
-begins_so : (xs : List Laid) → (ss : List Step) × (moving 1 0 8 xs freed ≡ program 4 8 0 0 0 ∷ ss)
-unfolding moving initialising words header body bytes4
-begins_so xs = (_, rw (clearing-blank 0 freed blank_0) refl)
-
-torn-sequence : Torn (program 4 0xFF 0 0 0) (program 4 8 0 0 0)
-unfolding Torn and8
-torn-sequence = (refl, (omega arith, refl), (omega arith, refl), (omega arith, refl), (omega arith, refl))
-
-tears : (cs : List Step) × Begins cs (reclaiming image) × (part (run cs image) 4 4 ≡ 0xFF ∷ 0 ∷ 0 ∷ 0 ∷ [])
-unfolding plan_steps Begins
-tears = (
-  mark_freeing 1 ∷ (program 4 0xFF 0 0 0 ∷ []),
-  rw moves (inl (refl, rw (begins_so (items_in 1 freed)).1 (inr (refl, torn-sequence)))),
-  left,
-)
-  where
-    left : part (run (mark_freeing 1 ∷ (program 4 0xFF 0 0 0 ∷ [])) image) 4 4 ≡ 0xFF ∷ 0 ∷ 0 ∷ 0 ∷ []
-    left = unfold run apply and_word put and8 in refl
-
 pub example : Example
+unfolding reclaiming
 example =
     let s : Store image = record { premises = premises; unchanged = unchanged } in
-    record { store = s; unsettled = unsettled image s; moves = moves; tears = tears; chooses = (full, chooses) }
+    record { store = s; unsettled = unsettled image s; moves = rw (whole, plan_is); chooses = (full, chooses) }

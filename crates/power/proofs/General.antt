@@ -1,26 +1,24 @@
--- The general form of demand 3: wherever the power fails in reclaim, and in a recovery after it, one of reclaim's images is left or what is left of the store;
--- and recovery run to its end keeps the same items of each. Assumes nothing.
+-- The general form of demand 3: every cut of reclaim, and of a recovery after it, leaves one of reclaim's images or what is left of the store; and recovery
+-- run to its end keeps the same items of each. Assumes nothing.
 use mathlib.Core.Path.{◌∙◌, ◌≡◌, ap, refl, sym}
 use mathlib.Core.Logic.{◌⊎◌, inl, inr, ⊎_elim}
 use mathlib.Core.Bool.{Bool, cond, false, true}
-use mathlib.Core.List.{List, ◌++◌, ◌∷◌}
-use Prim.Native.Nat.{◌≤◌, suc, zero, ℕ}
+use mathlib.Core.List.{List, [], ◌++◌, ◌∷◌}
+use Prim.Native.Nat.{◌≤◌, suc, ℕ}
 use native.Mathlib.Omega.{arith}
+use lib.ListN.{length, take}
+use lib.Seq.{take-length}
 use Rattle.entry.specs.States.{one}
 use Rattle.page.specs.Walk.{Laid}
 use Rattle.flash.specs.Step.{Step, run}
-use Rattle.flash.specs.Torn.{Begins}
-use Rattle.flash.proofs.Begins.{begins_append, begins_whole}
-use Rattle.flash.proofs.Laws.{run-append}
+use Rattle.flash.proofs.Laws.{cut-append, run-append}
 use Rattle.lists.specs.Lists.{sum_of}
 use Rattle.lists.proofs.Sums.{sum-le}
 use Rattle.answer.specs.Staged.{untag}
 use Rattle.finish.specs.Finish.{name_of, same_bytes}
 use Rattle.stages.specs.Stages.{accepted, recovery}
-use Rattle.reclaim.specs.Reclaim.{reclaiming}
-use Rattle.power.specs.Demand3.{Premises, recovered, stored, total}
-use Rattle.power.specs.Cuts.{Begun}
-use Rattle.power.specs.General.{General, Leaves, Unsettled}
+use Rattle.power.specs.Demand3.{Premises, failing, recovered, recoveries, stored, total}
+use Rattle.power.specs.General.{Leaves, Unsettled}
 use Rattle.power.proofs.Accepted.{accept, accept-rest}
 use Rattle.power.proofs.Judged.{Fit, Keeps, unsound}
 use Rattle.power.proofs.Last.{left_cut, left_keeps}
@@ -41,16 +39,12 @@ module _ (L : List ℕ) (U : Unsettled L) where
   F : Fit L
   F = fit L U
 
-  -- what the power can leave of reclaim and of recovery
-  abbrev pub Image : List ℕ → Type 0
+  -- what reclaim and recovery can be cut at
+  abbrev Image : List ℕ → Type 0
   Image m = Left L m ⊎ ((s : ℕ) × Good L s × State L s m)
 
-  -- reclaim
-  pub reclaim-cut : (cs : List Step) → Begins cs (reclaiming L) → Image (run cs L)
-  reclaim-cut cs b = ⊎_elim (λ e. inl (rw e (store_left L S))) (λ r. inr r) (reach L S cs b)
-
   -- the steps of recovery on it
-  pub accepts : (m : List ℕ) → Image m → accepted m ≡ true
+  accepts : (m : List ℕ) → Image m → accepted m ≡ true
   accepts m (inl K) = accept-rest L S.accepts m K.len K.rest
   accepts m (inr (s, G, T)) = accept L s G S.bytes S.accepts m T
 
@@ -72,30 +66,31 @@ module _ (L : List ℕ) (U : Unsettled L) where
     two-parts : plain m ≡ on.steps ++ plain finished
     two-parts = on.is ∙ rw (plain-rest finished then_left.rest)
 
-    state-cut : (cs : List Step) → Begins cs (plain m) → Image (run cs m)
-    state-cut cs b =
-        ⊎_elim (λ k. inr (s, G, on.cut cs k)) (λ k. rw (k.2, run-append on.steps (k.0 ∷ k.1) m) (inl (left_cut L F finished then_left (k.0 ∷ k.1) k.3)))
-        (begins_append cs on.steps (plain finished) (rw two-parts at b))
+    state-cut : (k : ℕ) → Image (run (take k (plain m)) m)
+    state-cut k =
+        rw two-parts
+        (⊎_elim (λ e. rw e (inr (s, G, on.cut k))) (λ e. rw (e.1, run-append on.steps (take (suc e.0) (plain finished)) m) (inl (left_cut L F finished then_left (suc e.0))))
+        (cut-append k on.steps (plain finished)))
 
   -- what it leaves at its end
   abbrev Ended : List ℕ → Type 0
   Ended m = Left L m × Keeps L m
 
   left_end : (m : List ℕ) → Left L m → Ended (run (plain m) m)
-  left_end m K = (left_cut L F m K (plain m) (begins_whole (plain m)), left_keeps L F m K)
+  left_end m K = (rw (take-length (plain m)) at (left_cut L F m K (length (plain m))), left_keeps L F m K)
 
-  pub image-cut : (m : List ℕ) → Image m → (cs : List Step) → Begins cs (untag (recovery m)) → Image (run cs m)
-  image-cut m I cs b = go I (rw (steps-are m I) at b)
+  image-cut : (m : List ℕ) → Image m → (k : ℕ) → Image (run (take k (untag (recovery m))) m)
+  image-cut m I k = rw (steps-are m I) (go I)
     where
-      go : Image m → Begins cs (plain m) → Image (run cs m)
-      go (inl K) b = inl (left_cut L F m K cs b)
-      go (inr (s, G, T)) b = state-cut s G m T cs b
+      go : Image m → Image (run (take k (plain m)) m)
+      go (inl K) = inl (left_cut L F m K k)
+      go (inr (s, G, T)) = state-cut s G m T k
 
   recovered_is : (m : List ℕ) → Image m → recovered m ≡ run (plain m) m
   unfolding recovered
   recovered_is m I = ap (λ (ss : List Step). run ss m) (steps-are m I)
 
-  pub image_end : (m : List ℕ) → Image m → Ended (recovered m)
+  image_end : (m : List ℕ) → Image m → Ended (recovered m)
   image_end m I = rw (recovered_is m I) (go I)
     where
       go : Image m → Ended (run (plain m) m)
@@ -103,10 +98,10 @@ module _ (L : List ℕ) (U : Unsettled L) where
       go (inr (s, G, T)) = rw (two-parts s G m T, run-append (on s G m T).steps (plain (finished s G m T)) m) (left_end (finished s G m T) (then_left s G m T))
 
   -- a recovery cut, and begun again
-  image-cuts : (n : ℕ) (l m : List ℕ) → Image l → Begun n l m → Image m
-  unfolding Begun
-  image-cuts zero l m I e = rw e I
-  image-cuts (suc n) l m I (x, c, b) = image-cuts n x m (rw c.2 (image-cut l I c.0 c.1)) b
+  image-cuts : (ks m : List ℕ) → Image m → Image (recoveries ks m)
+  unfolding recoveries
+  image-cuts [] m I = I
+  image-cuts (k ∷ ks) m I = image-cuts ks (run (take k (untag (recovery m))) m) (image-cut m I k)
 
   -- ---- an item's bytes determine its name, which no other item has
   held-once : (x : List ℕ) → total (λ (r : List ℕ). cond (unsound L r) 0 (one (same_bytes r x))) L ≤ 1
@@ -122,7 +117,7 @@ module _ (L : List ℕ) (U : Unsettled L) where
       named r false true e = rw (same_eq r x e, same_refl (name_of x)) (omega arith)
       named r false false e = omega arith
 
-  pub leaves : (m : List ℕ) → Image m → Leaves L m
+  leaves : (m : List ℕ) → Image m → Leaves L m
   leaves m I =
       let a = image_end m I in
       let b = image_end L (inl (store_left L S)) in
@@ -133,6 +128,7 @@ module _ (L : List ℕ) (U : Unsettled L) where
         free = a.0.free;
       }
 
--- reclaim cut, recoveries cut, and the last to its end
-pub general : General
-general L U x m c n b = leaves L U m (image-cuts L U n x m (rw c.2 (reclaim-cut L U c.0 c.1)) b)
+  -- reclaim cut, recoveries cut, and the last to its end
+  pub general-cuts : (c : ℕ) (ks : List ℕ) → Leaves L (failing c ks L)
+  unfolding failing
+  general-cuts c ks = leaves _ (image-cuts ks _ (⊎_elim (λ e. inl (rw e (store_left L S))) (λ r. inr r) (reach L S c)))

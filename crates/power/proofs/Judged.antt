@@ -10,8 +10,7 @@ use borrow.Author.Tests.{eq-eqb, eqb-false, eqb-true, ltb-true}
 use Rattle.entry.specs.States.{one}
 use Rattle.entry.specs.Fields.{key_number, key_of, namespace_of, span_of}
 use Rattle.page.proofs.Tests.{both_first, both_is, both-second, not-false, not-true}
-use Rattle.flash.specs.Step.{Step, run}
-use Rattle.flash.specs.Torn.{Begins}
+use Rattle.flash.specs.Step.{run}
 use Rattle.lists.proofs.Member.{◌∈◌, refuted}
 use Rattle.lists.proofs.Sums.{sum_ext, sum-ge, sum_plus}
 use Rattle.table.specs.declared.Page.{Page}
@@ -117,8 +116,8 @@ module _ (L : List ℕ) (F : Fit L) (l : List ℕ) (K : Left L l) (ps : List Pag
       let c = same (λ (r : List ℕ). one (index_of v r)) in
       omega arith)
 
-  pub blobs-cut : (cs : List Step) → Begins cs (erase_all ds) → Left L (run cs l)
-  blobs-cut cs b = let c = erased-cut ds l stands once cs b in left_of c.0 _ c.1
+  pub blobs-cut : (k : ℕ) → Left L (run (take k (erase_all ds)) l)
+  blobs-cut k = let c = erased-cut ds l stands once k in left_of c.0 _ c.1
 
   pub blobs-done : Without l ds (run (erase_all ds) l)
   blobs-done = erased_all ds l stands once

@@ -3,20 +3,19 @@ use mathlib.Core.Path.{◌∙◌, ◌≡◌, ap, refl, sym}
 use mathlib.Core.Logic.{◌⊎◌, inl, inr, ⊎_elim}
 use mathlib.Core.Bool.{Bool, ◌&&◌, false, true}
 use mathlib.Core.List.{List, [], ◌++◌, ◌∷◌, map}
-use Prim.Native.Nat.{◌+◌, ◌/◌, ◌<◌, ℕ}
+use Prim.Native.Nat.{◌+◌, ◌/◌, ◌<◌, suc, zero, ℕ}
 use native.Mathlib.Omega.{arith}
 use lib.Dec.{eqb}
-use lib.ListN.{length}
+use lib.ListN.{length, take}
+use lib.Seq.{take-length, take-nil}
 use borrow.Author.Tests.{eq-eqb, eqb-false, eqb-true}
 use Rattle.entry.specs.States.{one}
 use Rattle.page.specs.declared.state.PageState.TheVariants.{Active, Full}
 use Rattle.page.specs.State.{is_free, state_of}
 use Rattle.page.proofs.Tests.{both_first}
 use Rattle.flash.specs.Step.{Step, run, sector}
-use Rattle.flash.specs.Torn.{Begins}
-use Rattle.flash.proofs.Begins.{begins_append, begins_none, begins_whole}
 use Rattle.flash.proofs.Frame.{length_run}
-use Rattle.flash.proofs.Laws.{run-append}
+use Rattle.flash.proofs.Laws.{cut-append, run-append}
 use Rattle.item.specs.Mark.{mark_full}
 use Rattle.lists.specs.Lists.{keep, sum_of, sum_to}
 use Rattle.lists.proofs.Member.{◌∈◌}
@@ -36,22 +35,22 @@ use Rattle.power.proofs.Judged.{Fit, Keeps, blob_steps_lem, blobs-cut, blobs-don
 use Rattle.power.proofs.Left.{Left}
 use Rattle.power.proofs.Listing.{Lists, frees_same, listed-count, listed-page, lists_same}
 use Rattle.power.proofs.Lone.{Lone}
-use Rattle.power.proofs.Marks.{Marks, m_begun, m_full, m_items, m_others}
+use Rattle.power.proofs.Marks.{Marks, m_full, m_items, m_others}
 use Rattle.power.proofs.Plain.{order_on, plain, stages}
 use Rattle.power.proofs.Quiet.{Ordered, Rest, active_inv, plain-rest, rest_order}
 use Rattle.page.proofs.Read.{no_room}
-use Rattle.power.proofs.Runs.{run-nil, run_none}
+use Rattle.power.proofs.Runs.{run-nil}
 use Rattle.power.proofs.Totals.{on_sector, total-sectors}
 
--- ---- steps that leave it so wherever the power fails in them
+-- ---- steps that leave it so wherever they are cut
 abbrev pub Cuts : List ℕ → List Step → List ℕ → Type 0
-Cuts L ss l = (cs : List Step) → Begins cs ss → Left L (run cs l)
+Cuts L ss l = (k : ℕ) → Left L (run (take k ss) l)
 
 cuts-append : (L l : List ℕ) (a b : List Step) → Cuts L a l → Cuts L b (run a l) → Cuts L (a ++ b) l
-cuts-append L l a b A B cs c = ⊎_elim (λ k. A cs k) (λ k. rw (k.2, run-append a (k.0 ∷ k.1) l) (B (k.0 ∷ k.1) k.3)) (begins_append cs a b c)
+cuts-append L l a b A B k = ⊎_elim (λ e. rw e (A k)) (λ e. rw (e.1, run-append a (take (suc e.0) b) l) (B (suc e.0))) (cut-append k a b)
 
 cuts_end : (L l : List ℕ) (ss : List Step) → Cuts L ss l → Left L (run ss l)
-cuts_end L l ss C = C ss (begins_whole ss)
+cuts_end L l ss C = rw (take-length ss) at (C (length ss))
 
 -- ---- a page marked Full
 module _ (l : List ℕ) (t : ℕ) (h : t < sectors_of l) (mk : state_of (sector t l) ≡ Active) where
@@ -109,15 +108,12 @@ record Marked (L l : List ℕ) (ss : List Step) : Type 0 where
   same_total : (f : List ℕ → ℕ) → total f (run ss l) ≡ total f l
 
 by_marks : (L l : List ℕ) → Left L l → (ss : List Step) → Marks l ss → Marked L l ss
-by_marks L l K ss (inl e) = rw e (record { cuts = λ cs b. rw (run_none cs l (begins_none cs b)) K; same_free = λ u. rw (run-nil l); same_total = λ f. rw (run-nil l) })
+by_marks L l K ss (inl e) = rw e (record { cuts = λ k. rw (take-nil {A = Step} k, run-nil l) K; same_free = λ u. rw (run-nil l); same_total = λ f. rw (run-nil l) })
 by_marks L l K ss (inr (t, h, a, e)) = rw e (record { cuts = cut; same_free = mark_free l t h a; same_total = mark_total l t h a })
   where
     cut : Cuts L (mark_full t ∷ []) l
-    cut cs b = go (m_begun l t h a cs [] b)
-      where
-        go : (run cs l ≡ l) ⊎ ((ds : List Step) × Begins ds [] × (run cs l ≡ run ds (run (mark_full t ∷ []) l))) → Left L (run cs l)
-        go (inl z) = rw z K
-        go (inr (ds, c, z)) = rw (z ∙ run_none ds _ (begins_none ds c)) (mark_left l t h a L K)
+    cut zero = rw (run-nil l) K
+    cut (suc k) = rw (take-nil {A = Step} k) (mark_left l t h a L K)
 
 -- ---- the last marks: of the one Active page, if any
 module _ (l : List ℕ) (R : Rest l) (ps : List Page) (P : Lists l ps) (A : (p : Page) → p ∈ ps → active_page p ≡ true → active (state_of (sector p.sector l)) ≡ true) where
@@ -208,7 +204,7 @@ module _ (L : List ℕ) (F : Fit L) (l : List ℕ) (K : Left L l) where
   unfolding order_on
   plain_is = plain-rest l K.rest ∙ ap (λ (r : List Step). ss ++ r) stages-are
 
-  -- wherever the power fails, and where it ends
+  -- wherever it is cut, and where it ends
   pub left_cut : Cuts L (plain l) l
   left_cut = rw plain_is (cuts-append L l ss (erase_all ds ++ last_marks ps l2) M1.cuts (cuts-append L l1 (erase_all ds) (last_marks ps l2) C2 M2.cuts))
 

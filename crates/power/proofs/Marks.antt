@@ -1,5 +1,5 @@
 -- A page marked Full, or Freeing: the step on its sector alone, and what the page marked Full reads as. Assumes nothing.
-use mathlib.Core.Path.{◌∙◌, ◌≡◌, ap, refl, sym}
+use mathlib.Core.Path.{◌∙◌, ◌≡◌, ap, sym}
 use mathlib.Core.Logic.{◌⊎◌}
 use mathlib.Core.List.{List, [], ◌∷◌}
 use Prim.Native.Nat.{◌*◌, ◌+◌, ◌<◌, ℕ}
@@ -10,15 +10,14 @@ use Rattle.page.specs.declared.state.PageState.TheVariants.{Active, Full}
 use Rattle.page.specs.State.{sequence_of, state_of}
 use Rattle.page.specs.Walk.{items_of}
 use Rattle.flash.specs.Step.{Step, run, sector}
-use Rattle.flash.specs.Torn.{Begins}
 use Rattle.flash.proofs.Erased.{length-sector}
 use Rattle.flash.proofs.Frame.{AllIn, In, sector-kept}
 use Rattle.flash.proofs.Lent.{Fit, sector-local}
 use Rattle.flash.proofs.Every.{every_one}
-use Rattle.item.specs.Mark.{mark_freeing, mark_full, page_state}
+use Rattle.item.specs.Mark.{mark_full, page_state}
 use Rattle.table.specs.Table.{sectors_of}
-use Rattle.item.proofs.Marked.{clears-freeing, clears-full, mark_begun, marked-drop, marked-sequence, page-word, to_full}
-use Rattle.page.proofs.Read.{items_same, state_inv}
+use Rattle.item.proofs.Marked.{marked-drop, marked-sequence, to_full}
+use Rattle.page.proofs.Read.{items_same}
 
 mark_in : (u b : ℕ) → AllIn (u * 4096) (u * 4096 + 4096) (page_state (u * 4096) b ∷ [])
 mark_in u b = every_one (In (u * 4096) (u * 4096 + 4096)) _ (omega arith, omega arith)
@@ -32,12 +31,6 @@ mark_sector t b l =
 -- no step, or one that marks an Active page Full
 abbrev pub Marks : List ℕ → List Step → Type 0
 Marks l ss = (ss ≡ []) ⊎ ((t : ℕ) × (t < sectors_of l) × (state_of (sector t l) ≡ Active) × (ss ≡ mark_full t ∷ []))
-
--- ---- a Full page marked Freeing: where the power fails in the mark it is not made, or made
-pub f_begun : (l : List ℕ) (s : ℕ) → s < sectors_of l → state_of (sector s l) ≡ Full → (cs ss : List Step) → Begins cs (mark_freeing s ∷ ss)
-    → (run cs l ≡ l) ⊎ ((ds : List Step) × Begins ds ss × (run cs l ≡ run ds (run (mark_freeing s ∷ []) l)))
-f_begun l s h mk =
-    mark_begun l (s * 4096) 2 0xFC 0xF8 (omega arith) (page-word s l 0xFC (state_inv (sector s l) Full mk refl).1) (omega arith) (omega arith) clears-freeing
 
 -- ---- an Active page marked Full
 module _ (l : List ℕ) (t : ℕ) (h : t < sectors_of l) (mk : state_of (sector t l) ≡ Active) where
@@ -61,11 +54,6 @@ module _ (l : List ℕ) (t : ℕ) (h : t < sectors_of l) (mk : state_of (sector 
       let z = len-st in
       let y = to_full (sector t l) (omega arith) mk in
       rw m_at (items_same (sector t l) (run (page_state 0 0xFC ∷ []) (sector t l)) (marked-drop (sector t l) 0xFC (omega arith) 32 (omega arith)) (rw (y, mk)))
-
-  -- where the power fails in the mark it is not made, or made
-  pub m_begun : (cs ss : List Step) → Begins cs (mark_full t ∷ ss) → (run cs l ≡ l) ⊎ ((ds : List Step) × Begins ds ss × (run cs l ≡ run ds lf))
-  m_begun =
-      mark_begun l (t * 4096) 1 0xFE 0xFC (omega arith) (page-word t l 0xFE (state_inv (sector t l) Active mk refl).1) (omega arith) (omega arith) clears-full
 
   pub m_sequence : sequence_of (sector t lf) ≡ sequence_of (sector t l)
   m_sequence = rw m_at (marked-sequence (sector t l) 0xFC (let z = len-st in omega arith))

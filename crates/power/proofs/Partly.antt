@@ -5,9 +5,9 @@ use mathlib.Core.Logic.{◌⊎◌, inl, inr, ⊎_elim}
 use mathlib.Core.Bool.{Bool, cond, false, true}
 use mathlib.Core.Option.{some}
 use mathlib.Core.List.{List, [], ◌++◌, ◌∷◌}
-use Prim.Native.Nat.{◌<◌, ◌≤◌, ℕ}
+use Prim.Native.Nat.{◌<◌, ◌≤◌, suc, zero, ℕ}
 use lib.Dec.{eqb}
-use lib.ListN.{get_or}
+use lib.ListN.{get_or, take}
 use borrow.Author.Tests.{eqb-false, eqb-true}
 use Rattle.entry.specs.States.{one}
 use Rattle.page.specs.declared.state.PageState.{PageState}
@@ -16,8 +16,6 @@ use Rattle.page.specs.Record.{seen_of}
 use Rattle.page.specs.State.{is_free, state_of}
 use Rattle.page.specs.Walk.{Laid, items_of}
 use Rattle.flash.specs.Step.{Step, erase, run, sector}
-use Rattle.flash.specs.Torn.{Begins}
-use Rattle.flash.proofs.Begins.{begins_erase}
 use Rattle.flash.proofs.Frame.{length_run, sector-kept, erase_in}
 use Rattle.item.specs.Mark.{mark_full}
 use Rattle.relocate.specs.Move.{moving}
@@ -34,13 +32,13 @@ use Rattle.finish.specs.Finish.{copy_of}
 use Rattle.finishing.specs.Finishing.{freeings}
 use Rattle.power.proofs.State.{AllFree, Good, Old, Side, Source, SourceRecord, State, Target, TargetRecord, freeings_one, full, n_same, old-full, old_in, partly, source_in, source_record, target_apart, target_in, target_page, target_record}
 use Rattle.relocate.proofs.Copies.{Partial}
-use Rattle.power.proofs.Runs.{Runs, rec_some, run-nil, run_none, run_one}
+use Rattle.power.proofs.Runs.{Runs, rec_some, run-nil, run_one}
 use Rattle.power.proofs.Lone.{Kept, Lone, kept_order, kept_as}
 use Rattle.power.proofs.Complete.{full-steps}
 use Rattle.power.proofs.Unmade.{move_runs}
 use Rattle.power.proofs.Finish.{finish_one, part-round}
 use Rattle.page.proofs.Read.{no_room}
-use Rattle.power.proofs.Marks.{m_begun, m_full, m_items, m_others, m_sequence}
+use Rattle.power.proofs.Marks.{m_full, m_items, m_others, m_sequence}
 use Rattle.item.proofs.Fresh.{blank_free}
 use Rattle.flash.proofs.Erased.{erased-blank}
 use Rattle.power.proofs.Plain.{finish_on, plain, rescan}
@@ -225,8 +223,9 @@ module _ (L : List ℕ) (s : ℕ) (G : Good L s) (small : (i : ℕ) → get_or L
         source-only p (inr (inl k)) e = absurd (not_s (sym (ap {B = ℕ} (λ (z : Page). z.sector) k) ∙ e))
         source-only p (inr (inr k)) e = absurd (k.2 e)
 
-        cuts_of : (mv : List Step) → ((cs : List Step) → Begins cs mv → State L s (run cs lt)) → (cs : List Step) → Begins cs (erase t ∷ mv) → State L s (run cs l)
-        cuts_of mv h cs b = ⊎_elim (λ e. rw (run_none cs l e) state) (λ e. rw (e.1, run_one (erase t) e.0 l) (h e.0 e.2)) (begins_erase cs t mv b)
+        cuts_of : (mv : List Step) → ((k : ℕ) → State L s (run (take k mv) lt)) → (k : ℕ) → State L s (run (take k (erase t ∷ mv)) l)
+        cuts_of mv h zero = rw (run-nil l) state
+        cuts_of mv h (suc k) = rw (run_one (erase t) (take k mv) l) (h k)
 
     -- ---- it has none: it is complete, and is marked Full
     abbrev lf : List ℕ
@@ -274,8 +273,9 @@ module _ (L : List ℕ) (s : ℕ) (G : Good L s) (small : (i : ℕ) → get_or L
         let Z = e_done L s G small lf m_side t q m_target is_full E in
         record { steps = f; is = e; cut = cuts_of (full t q m_side m_source m_target is_full E) Z.0; end = rw (run_one (mark_full t) (erase s ∷ []) l) Z.1 }
       where
-        cuts_of : State L s lf → State L s (run (erase s ∷ []) lf) → (cs : List Step) → Begins cs (mark_full t ∷ (erase s ∷ [])) → State L s (run cs l)
-        cuts_of a b cs c = ⊎_elim (λ e. rw e state) (λ e. rw e.2 (one_step L s G small lf a b e.0 e.1)) (m_begun l t t_here mk cs (erase s ∷ []) c)
+        cuts_of : State L s lf → State L s (run (erase s ∷ []) lf) → (k : ℕ) → State L s (run (take k (mark_full t ∷ (erase s ∷ []))) l)
+        cuts_of a b zero = rw (run-nil l) state
+        cuts_of a b (suc k) = rw (run_one (mark_full t) (take k (erase s ∷ [])) l) (one_step L s G small lf a b k)
 
     -- recovery from there
     pub part-runs : Runs L s l

@@ -1,21 +1,20 @@
--- The power fails in a reclaim of a store within the premises: the store is as it was, or one of the images is left. Assumes nothing.
+-- Reclaim cut anywhere on a store within the premises: the store as it was, or one of the images. Assumes nothing.
 use mathlib.Core.Path.{◌∙◌, ◌≡◌, refl, sym}
-use mathlib.Core.Logic.{◌⊎◌, inl, inr, ⊎_elim}
+use mathlib.Core.Logic.{◌⊎◌, inl, inr}
 use mathlib.Core.Bool.{Bool, cond, false, true}
 use mathlib.Core.Option.{Option, none, some}
 use mathlib.Core.List.{List, [], ◌∷◌, get_last?}
-use Prim.Native.Nat.{◌*◌, ◌+◌, ◌<◌, ℕ}
+use Prim.Native.Nat.{◌*◌, ◌+◌, ◌<◌, suc, zero, ℕ}
 use native.Mathlib.Omega.{arith}
 use lib.Dec.{eqb, ltb}
-use lib.ListN.{length}
+use lib.ListN.{length, take}
+use lib.Seq.{take-nil}
 use borrow.Author.Tests.{eqb-true, ltb-true}
 use Rattle.entry.specs.States.{count_state}
 use Rattle.page.specs.declared.seen.Seen.{Seen}
 use Rattle.page.specs.State.{is_free, state_of}
 use Rattle.page.specs.Walk.{items_of}
 use Rattle.flash.specs.Step.{Step, erase, run, sector}
-use Rattle.flash.specs.Torn.{Begins}
-use Rattle.flash.proofs.Begins.{begins_erase, begins_none}
 use Rattle.flash.proofs.Erased.{length-sector}
 use Rattle.flash.proofs.Frame.{In, length_run, sector-kept}
 use Rattle.flash.proofs.Every.{every_one}
@@ -35,7 +34,7 @@ use Rattle.plan.specs.Plan.{chosen, next, plan, plan_to, plan_with}
 use Rattle.plan.proofs.Chosen.{chosen_in}
 use Rattle.reclaim.specs.Reclaim.{plan_steps, reclaiming}
 use Rattle.power.specs.Demand3.{Premises}
-use Rattle.power.proofs.Runs.{run_none}
+use Rattle.power.proofs.Runs.{run_one}
 use Rattle.power.proofs.Unmade.{move_runs}
 use Rattle.power.proofs.Finish.{Seq}
 use Rattle.item.proofs.Marked.{marked-drop, marked-sequence, to_freeing}
@@ -44,29 +43,34 @@ use Rattle.power.proofs.AllErased.{items_none}
 use Rattle.power.proofs.Ends.{e_gone}
 use Rattle.power.proofs.State.{AllFree, Good, Side, Source, State}
 use Rattle.power.proofs.Premises.{good}
-use Rattle.power.proofs.Marks.{f_begun, mark_sector}
+use Rattle.power.proofs.Marks.{mark_sector}
 
 module _ (L : List ℕ) (S : Premises L) where
   abbrev n : ℕ
   n = sectors_of L
 
-  -- what the power can leave of a reclaim
+  -- what reclaim can be cut at
   abbrev pub Reach : List ℕ → Type 0
   Reach m = (m ≡ L) ⊎ ((s : ℕ) × Good L s × State L s m)
 
-  nothing : (cs : List Step) → Begins cs [] → Reach (run cs L)
-  nothing cs b = inl (run_none cs L (begins_none cs b))
+  nothing : (c : ℕ) → Reach (run (take c []) L)
+  unfolding run
+  nothing c = rw (take-nil {A = Step} c) (inl refl)
+
+  zero-cut : (ss : List Step) → run (take 0 ss) L ≡ L
+  unfolding run
+  zero-cut ss = refl
 
   module _ (s : ℕ) (h : s < n) (p : is_free (state_of (sector s L)) ≡ false) where
     abbrev G : Good L s
     G = good L S s h p
 
     -- all Erased: the page is erased
-    erased-reach : count_state (sector s L) 0 ≡ 126 → (cs : List Step) → Begins cs (erase s ∷ []) → Reach (run cs L)
-    erased-reach e cs b =
-        ⊎_elim (λ k. inl (run_none cs L k))
-        (λ k. rw (k.1, begins_none k.0 k.2) (inr (s, G, (e_gone L s G S.bytes L (record { len = refl; kept = λ u a b d. refl }) (λ u a f. f) (items_none (sector s L) e)).0)))
-        (begins_erase cs s [] b)
+    erased-reach : count_state (sector s L) 0 ≡ 126 → (c : ℕ) → Reach (run (take c (erase s ∷ [])) L)
+    erased-reach e zero = inl (zero-cut (erase s ∷ []))
+    erased-reach e (suc c) =
+        rw (take-nil {A = Step} c)
+        (inr (s, G, (e_gone L s G S.bytes L (record { len = refl; kept = λ u a b d. refl }) (λ u a f. f) (items_none (sector s L) e)).0))
 
     -- else it is marked Freeing
     abbrev l1 : List ℕ
@@ -108,49 +112,51 @@ module _ (L : List ℕ) (S : Premises L) where
         at q m = ltb-true (sequence q) 0xFFFFFFF0 (every_of (λ (z : Page). ltb (sequence z) 0xFFFFFFF0) (pages L) S.below q m)
 
     -- and its items are moved to the last free sector
-    moved-reach : (t : ℕ) → get_last? (frees L) ≡ some t → (cs : List Step) → Begins cs (mark_freeing s ∷ moving s t (next (pages L)) (items_in s l1) l1) → Reach (run cs L)
-    moved-reach t e cs b =
+    moved-reach : (t : ℕ) → get_last? (frees L) ≡ some t → (c : ℕ) → Reach (run (take c (mark_freeing s ∷ moving s t (next (pages L)) (items_in s l1) l1)) L)
+    moved-reach t e zero = inl (zero-cut (mark_freeing s ∷ moving s t (next (pages L)) (items_in s l1) l1))
+    moved-reach t e (suc c) =
         let f = frees_in L t (last_in (frees L) t e) in
         let ne : (t ≡ s → ⊥) = (λ k. true≢false (rw k at f.1) p) in
         let i : items_in s l1 ≡ items_of (sector s L) = listed-items s l1 (rw source.state) ∙ source.items in
         let mv = move_runs L s G S.bytes l1 side source t f.0 f.1 all_free t (next (pages L)) f.0 (rw (others t ne) f.1) next-above in
-        ⊎_elim (λ k. inl k) (λ k. rw k.2 (inr (s, G, mv.0 k.0 (rw i at k.1)))) (f_begun L s h (G.fulls s h p) cs _ b)
+        rw (i, run_one (mark_freeing s) (take c (moving s t (next (pages L)) (items_of (sector s L)) l1)) L) (inr (s, G, mv.0 c))
 
-    to_reach : (cs : List Step) (o : Option ℕ) → get_last? (frees L) ≡ o → Begins cs (plan_steps L (plan_to (pages L) s o)) → Reach (run cs L)
+    to_reach : (c : ℕ) (o : Option ℕ) → get_last? (frees L) ≡ o → Reach (run (take c (plan_steps L (plan_to (pages L) s o))) L)
     unfolding plan_to plan_steps
-    to_reach cs none e b = nothing cs b
-    to_reach cs (some t) e b = go (ltb 0xFFFFFFFD (greatest sequence (pages L))) b
+    to_reach c none e = nothing c
+    to_reach c (some t) e = go (ltb 0xFFFFFFFD (greatest sequence (pages L)))
       where
-        go : (c : Bool) → Begins cs (plan_steps L (cond c (Refuse SequencesSpent) (Move s t (next (pages L))))) → Reach (run cs L)
-        go true b = nothing cs b
-        go false b = moved-reach t e cs b
+        go : (b : Bool) → Reach (run (take c (plan_steps L (cond b (Refuse SequencesSpent) (Move s t (next (pages L)))))) L)
+        go true = nothing c
+        go false = moved-reach t e c
 
   -- the plan for the chosen page, of which the record is r
-  with-reach : (cs : List Step) (s : ℕ) (r : Seen) → s < n → is_free (state_of (sector s L)) ≡ false → r.erased ≡ count_state (sector s L) 0
-      → Begins cs (plan_steps L (plan_with (pages L) (frees L) (some (record { sector = s; seen = r })))) → Reach (run cs L)
+  with-reach : (c s : ℕ) (r : Seen) → s < n → is_free (state_of (sector s L)) ≡ false → r.erased ≡ count_state (sector s L) 0
+      → Reach (run (take c (plan_steps L (plan_with (pages L) (frees L) (some (record { sector = s; seen = r }))))) L)
   unfolding plan_with plan_steps
-  with-reach cs s r h p k b = go (eqb r.erased 126) refl b
+  with-reach c s r h p k = go (eqb r.erased 126) refl
     where
-      go : (c : Bool) → eqb r.erased 126 ≡ c → Begins cs (plan_steps L (cond c (Clear s) (plan_to (pages L) s (get_last? (frees L))))) → Reach (run cs L)
-      go true q b = erased-reach s h p (sym k ∙ eqb-true _ 126 q) cs b
-      go false q b = to_reach s h p cs (get_last? (frees L)) refl b
+      go : (b : Bool) → eqb r.erased 126 ≡ b → Reach (run (take c (plan_steps L (cond b (Clear s) (plan_to (pages L) s (get_last? (frees L)))))) L)
+      go true q = erased-reach s h p (sym k ∙ eqb-true _ 126 q) c
+      go false q = to_reach s h p c (get_last? (frees L)) refl
 
-  -- wherever it fails
-  pub reach : (cs : List Step) → Begins cs (reclaiming L) → Reach (run cs L)
+  -- wherever it is cut
+  pub reach : (c : ℕ) → Reach (run (take c (reclaiming L)) L)
   unfolding reclaiming plan plan_steps
-  reach cs b = whole (whole_sectors L) b
+  reach c = whole (whole_sectors L)
     where
-      page : (o : Option Page) → chosen (pages L) ≡ o → Begins cs (plan_steps L (plan_with (pages L) (frees L) o)) → Reach (run cs L)
-      page none k b = unfold plan_with in nothing cs b
-      page (some x) k b =
+      page : (o : Option Page) → chosen (pages L) ≡ o → Reach (run (take c (plan_steps L (plan_with (pages L) (frees L) o))) L)
+      page none k = unfold plan_with in nothing c
+      page (some x) k =
           let m = (chosen_in (pages L) k).0 in
           let r = pages_in L x m in
-          with-reach cs x.sector x.seen r.1 r.2 (page-erased L x m) b
+          with-reach c x.sector x.seen r.1 r.2 (page-erased L x m)
 
-      none_active : (c : Bool) → Begins cs (plan_steps L (cond c (Refuse ActiveStands) (plan_with (pages L) (frees L) (chosen (pages L))))) → Reach (run cs L)
-      none_active true b = nothing cs b
-      none_active false b = page (chosen (pages L)) refl b
+      none_active : (b : Bool) → Reach (run (take c (plan_steps L (cond b (Refuse ActiveStands) (plan_with (pages L) (frees L) (chosen (pages L)))))) L)
+      none_active true = nothing c
+      none_active false = page (chosen (pages L)) refl
 
-      whole : (c : Bool) → Begins cs (cond c (plan_steps L (cond (some_of active_page (pages L)) (Refuse ActiveStands) (plan_with (pages L) (frees L) (chosen (pages L))))) []) → Reach (run cs L)
-      whole true b = none_active (some_of active_page (pages L)) b
-      whole false b = nothing cs b
+      whole : (b : Bool)
+          → Reach (run (take c (cond b (plan_steps L (cond (some_of active_page (pages L)) (Refuse ActiveStands) (plan_with (pages L) (frees L) (chosen (pages L))))) [])) L)
+      whole true = none_active (some_of active_page (pages L))
+      whole false = nothing c

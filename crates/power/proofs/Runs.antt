@@ -1,11 +1,11 @@
 -- What is to hold of recovery on an image, and where there is nothing to finish. Assumes nothing.
-use mathlib.Core.Path.{◌∙◌, ◌≡◌, ap, refl}
+use mathlib.Core.Path.{◌∙◌, ◌≡◌, refl}
 use mathlib.Core.Option.{none}
 use mathlib.Core.List.{List, [], ◌++◌, ◌∷◌}
 use Prim.Native.Nat.{ℕ}
+use lib.ListN.{take}
+use lib.Seq.{take-nil}
 use Rattle.flash.specs.Step.{Step, run}
-use Rattle.flash.specs.Torn.{Begins}
-use Rattle.flash.proofs.Begins.{begins_none}
 use Rattle.table.specs.Table.{frees, pages}
 use Rattle.order.specs.Order.{kept, ordered, ordering}
 use Rattle.finishing.specs.Finishing.{freeings}
@@ -33,14 +33,11 @@ pub run-nil : (l : List ℕ) → run [] l ≡ l
 unfolding run
 run-nil l = refl
 
-pub run_none : (cs : List Step) (l : List ℕ) → cs ≡ [] → run cs l ≡ l
-run_none cs l e = ap (λ (ss : List Step). run ss l) e ∙ run-nil l
-
--- the steps up to the end of the finish stage: wherever the power fails in them one of the images is left, and at their end the items are those of the store
+-- the steps up to the end of the finish stage: every cut of them is one of the images, and at their end the items are those of the store
 pub record Runs (L : List ℕ) (s : ℕ) (l : List ℕ) : Type 0 where
   pub steps : List Step
   pub is : plain l ≡ steps ++ rescan steps l
-  pub cut : (cs : List Step) → Begins cs steps → State L s (run cs l)
+  pub cut : (k : ℕ) → State L s (run (take k steps) l)
   pub end : Final L (run steps l)
 
 -- nothing to finish
@@ -49,6 +46,6 @@ idle-runs L s l S F =
     record {
       steps = [];
       is = plain-rest l F.rest ∙ rw (run-nil l);
-      cut = λ cs b. rw (run_none cs l (begins_none cs b)) S;
+      cut = λ k. rw (take-nil {A = Step} k, run-nil l) S;
       end = rw (run-nil l) F;
     }

@@ -5,14 +5,13 @@ use mathlib.Core.Bool.{Bool, false, true}
 use mathlib.Core.List.{List, [], ◌++◌, ◌∷◌}
 use Prim.Native.Nat.{◌/◌, ◌<◌, ℕ}
 use lib.Dec.{eqb}
-use lib.ListN.{get_or}
+use lib.ListN.{get_or, take}
 use borrow.Author.Tests.{eqb-false, eqb-true}
 use Rattle.page.specs.declared.state.PageState.TheVariants.{Freeing}
 use Rattle.page.specs.Record.{seen_of}
 use Rattle.page.specs.State.{is_free, state_of}
 use Rattle.page.specs.Walk.{Laid, items_of}
 use Rattle.flash.specs.Step.{Step, blank, erase, run, sector}
-use Rattle.flash.specs.Torn.{Begins}
 use Rattle.flash.proofs.Frame.{length_run}
 use Rattle.relocate.specs.Move.{moving}
 use Rattle.lists.proofs.Search.{last_some}
@@ -88,13 +87,13 @@ module _ (L : List ℕ) (s : ℕ) (G : Good L s) (small : (i : ℕ) → get_or L
 
     -- the source copied to t
     pub move_runs : (t q : ℕ) → t < n → is_free (state_of (sector t l)) ≡ true → Seq L q
-        → ((cs : List Step) → Begins cs (moving s t q X l) → State L s (run cs l)) × Final L (run (moving s t q X l) l)
+        → ((k : ℕ) → State L s (run (take k (moving s t q X l)) l)) × Final L (run (moving s t q X l) l)
     move_runs t q h f Q =
         let w = free_l-L t h f in
         let ne : (s ≡ t → ⊥) = (λ e. true≢false w (rw e at G.page)) in
         let XF = X-fine L s G small in (
-          λ cs b. cut-state L s G small l D R F t q h w Q (run cs l) (length_run cs l)
-              (move_cut q X XF.0 XF.1 s t l (room L s G small l D.len t h) (room L s G small l D.len s G.here) ne f cs b),
+          λ k. cut-state L s G small l D R F t q h w Q (run (take k (moving s t q X l)) l) (length_run (take k (moving s t q X l)) l)
+              (move_cut q X XF.0 XF.1 s t l (room L s G small l D.len t h) (room L s G small l D.len s G.here) ne f k),
           finish w ne (move_end q X XF.0 XF.1 s t l (room L s G small l D.len t h) (room L s G small l D.len s G.here) ne f),
         )
       where

@@ -7,14 +7,13 @@ use Prim.Native.Nat.{◌+◌, ◌/◌, suc, ℕ}
 use native.Mathlib.Omega.{arith}
 use lib.Dec.{eqb}
 use lib.ListN.{length, take}
+use lib.Seq.{take-length, take-nil}
 use borrow.Author.Tests.{eq-eqb, eqb-false, eqb-true}
 use Rattle.page.specs.State.{state_of}
 use Rattle.page.specs.Walk.{items_of}
 use Rattle.page.proofs.Tests.{both_is}
 use Rattle.flash.specs.Step.{Step, run, sector}
-use Rattle.flash.specs.Torn.{Begins}
-use Rattle.flash.proofs.Begins.{begins_append, begins_none, begins_whole}
-use Rattle.flash.proofs.Laws.{run-append}
+use Rattle.flash.proofs.Laws.{cut-append, run-append}
 use Rattle.lists.specs.Lists.{sum_of, sum_to}
 use Rattle.lists.proofs.Member.{◌∈◌, true≢false}
 use Rattle.lists.proofs.Sums.{sum-append}
@@ -24,7 +23,7 @@ use Rattle.found.specs.Found.{Found, erase_all}
 use Rattle.duplicates.proofs.Once.{Once, once_first, once-rest}
 use Rattle.quick.specs.Calm.{tot}
 use Rattle.power.specs.Demand3.{total}
-use Rattle.power.proofs.Erasing.{Erases, Stands, after, before-or-after, erases, erasure, stands_after}
+use Rattle.power.proofs.Erasing.{Erases, Stands, after, before, erases, erasure, stands_after}
 use Rattle.power.proofs.Once.{but, sum-but}
 use Rattle.power.proofs.Totals.{on_sector, total-sectors}
 
@@ -85,10 +84,10 @@ module _ (l : List ℕ) (x : Found) (S : Stands l x) where
         }
 
   one_whole : Without l (x ∷ []) (run (erasure x) l)
-  one_whole = now (run (erasure x) l) (erases l x S (erasure x) (begins_whole (erasure x))) (after l x S)
+  one_whole = now (run (erasure x) l) (rw (take-length (erasure x)) at (erases l x S (length (erasure x)))) (after l x S)
 
-  one_cut : (cs : List Step) → Begins cs (erasure x) → Without l [] (run cs l) ⊎ Without l (x ∷ []) (run cs l)
-  one_cut cs b = ⊎_elim (λ e. inl (not_yet (run cs l) (erases l x S cs b) e)) (λ e. inr (now (run cs l) (erases l x S cs b) e)) (before-or-after l x S cs b)
+  one_cut : (k : ℕ) → Without l [] (run (take k (erasure x)) l) ⊎ Without l (x ∷ []) (run (take k (erasure x)) l)
+  one_cut k = ⊎_elim (λ e. inl (not_yet (run (take k (erasure x)) l) (erases l x S k) e)) (λ e. inr (rw e one_whole)) (before l x S k)
 
 -- ---- one after the other
 -- the rest stands still
@@ -105,13 +104,13 @@ erased_all (x ∷ xs) l s o =
     rw (run-append (erasure x) (erase_all xs) l)
     (then l (run (erasure x) l) _ (x ∷ []) xs (one_whole l x (s x (inl refl))) (erased_all xs (run (erasure x) l) (rest-stands l x xs s o) (once-rest x xs o)))
 
--- and wherever the power fails, the first so many
-pub erased-cut : (xs : List Found) (l : List ℕ) → ((y : Found) → y ∈ xs → Stands l y) → Once xs → (cs : List Step) → Begins cs (erase_all xs) → (j : ℕ) × Without l (take j xs) (run cs l)
+-- and cut anywhere, the first so many
+pub erased-cut : (xs : List Found) (l : List ℕ) → ((y : Found) → y ∈ xs → Stands l y) → Once xs → (k : ℕ) → (j : ℕ) × Without l (take j xs) (run (take k (erase_all xs)) l)
 unfolding erase_all flat_map run
-erased-cut [] l s o cs b = (0, rw (begins_none cs b) (none l))
-erased-cut (x ∷ xs) l s o cs b =
+erased-cut [] l s o k = (0, rw (take-nil {A = Step} k) (none l))
+erased-cut (x ∷ xs) l s o k =
     let ih = erased-cut xs (run (erasure x) l) (rest-stands l x xs s o) (once-rest x xs o) in
     ⊎_elim
-    (λ k. ⊎_elim (λ c. (0, c)) (λ c. (1, c)) (one_cut l x (s x (inl refl)) cs k))
-    (λ k. let i = ih (k.0 ∷ k.1) k.3 in (suc i.0, rw (k.2, run-append (erasure x) (k.0 ∷ k.1) l) (then l _ _ (x ∷ []) _ (one_whole l x (s x (inl refl))) i.1)))
-    (begins_append cs (erasure x) (erase_all xs) b)
+    (λ e. rw e (⊎_elim (λ c. (0, c)) (λ c. (1, c)) (one_cut l x (s x (inl refl)) k)))
+    (λ e. (suc (ih (suc e.0)).0, rw (e.1, run-append (erasure x) (take (suc e.0) (erase_all xs)) l) (then l _ _ (x ∷ []) _ (one_whole l x (s x (inl refl))) (ih (suc e.0)).1)))
+    (cut-append k (erasure x) (erase_all xs))

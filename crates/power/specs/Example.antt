@@ -1,9 +1,6 @@
 -- Bridge: document 01's own example as a store of demand 3: "an image with sector 0 Blank and sector 1 Full, sequence 7, three readable one-entry items of namespace 1,
 -- type 0x01 and different keys, and two Erased entries". The premises can be met, and reclaim then has steps to cut. Assumes nothing.
 use Rattle.std.specs.Prelude.{◌≡◌, List, [], ◌∷◌, ◌++◌, ℕ, replicate}
-use Rattle.word.specs.Number.{part}
-use Rattle.flash.specs.Step.{Step, run}
-use Rattle.flash.specs.Torn.{Begins}
 use Rattle.table.specs.declared.Page.{Page}
 use Rattle.table.specs.Table.{pages}
 use Rattle.plan.specs.declared.Plan.TheVariants.{Move}
@@ -45,7 +42,5 @@ pub record Example : Type 0 where
   pub store : Store image
   pub unsettled : Unsettled image
   pub moves : reclaiming image ≡ plan_steps image (Move 1 0 8)
-  -- and the power can fail inside a word of it: of the new page's sequence, 8, three bytes are written and one is not
-  pub tears : (cs : List Step) × Begins cs (reclaiming image) × (part (run cs image) 4 4 ≡ 0xFF ∷ 0 ∷ 0 ∷ 0 ∷ [])
   -- it meets the premises of document 02, No. 12, too: no page is Active, and one is chosen
   pub chooses : (x : Page) × Met (pages image) x

@@ -1,4 +1,4 @@
--- All items of the source copied into the target: wherever the power fails, and the end. Assumes nothing.
+-- All items of the source copied into the target: every cut, and the end. Assumes nothing.
 use mathlib.Core.Path.{◌∙◌, ◌≡◌, ap, refl, sym}
 use mathlib.Core.Logic.{◌⊎◌, inl, inr, ⊎_elim}
 use mathlib.Core.Bool.{Bool, cond, false, true}
@@ -6,7 +6,7 @@ use mathlib.Core.List.{List, [], ◌++◌, ◌∷◌, append_assoc, append-nil}
 use Prim.Native.Nat.{◌*◌, ◌+◌, ◌-◌, ◌<◌, ◌^◌, ◌≤◌, suc, zero, ℕ}
 use native.Mathlib.Omega.{arith}
 use lib.ListN.{drop, get_or, length, length-drop, length-take, take}
-use lib.Seq.{take-take}
+use lib.Seq.{take-nil, take-take}
 use Rattle.entry.specs.Fields.{entry_at, span_of}
 use Rattle.lists.specs.Lists.{sum_of}
 use Rattle.lists.proofs.Maps.{in_map, map_in}
@@ -18,9 +18,7 @@ use Rattle.page.proofs.Walking.{raw-span}
 use Rattle.page.proofs.Items.{IsItem, is_item_lem, item_is, raw_at}
 use Rattle.page.proofs.Read.{Word4, no_room}
 use Rattle.flash.specs.Step.{Step, run}
-use Rattle.flash.specs.Torn.{Begins}
-use Rattle.flash.proofs.Begins.{begins_append, begins_none}
-use Rattle.flash.proofs.Laws.{run-append}
+use Rattle.flash.proofs.Laws.{cut-append, run-append}
 use Rattle.flash.proofs.Lent.{AllFit, Fit}
 use Rattle.flash.proofs.Order.{le-or-gt}
 use Rattle.flash.proofs.Every.{every_append, every_none}
@@ -97,52 +95,43 @@ module _ (q : ℕ) (R : List (List ℕ)) where
   copies_end T ys p (x ∷ xs) H h W K e f F =
       one_more T ys p x xs H W K e f F (copies_end (run (copying 0 p x.raw) T) (ys ++ (x.raw ∷ [])) (p + span_of x.raw) xs)
 
-  -- where the page is full, nothing is left to copy, and so nothing of it is made
-  none_left : (p : ℕ) (xs : List Laid) → p ≡ 126 → p + spans (raws xs) ≤ 126 → AllFine (raws xs) → raws xs ≡ []
-  unfolding sum_of
-  none_left p [] z g K = refl
-  none_left p (y ∷ xs) z g K = let b = K.0.some in absurd (omega arith)
-
-  none_begun : (T : List ℕ) (ys : List (List ℕ)) (p : ℕ) (xs : List Laid) (cs : List Step) → Begins cs (copies 0 p xs) → Shape q T ys p → Packed T p → p ≡ 126 → Word4 T 0xFC
-      → ys ++ raws xs ≡ R → p + spans (raws xs) ≤ 126 → AllFine (raws xs) → Ready q R (run cs T)
+  -- a cut anywhere
+  pub copies-cut : (T : List ℕ) (ys : List (List ℕ)) (p : ℕ) (xs : List Laid) (k : ℕ) → Shape q T ys p → (p < 126) → Word4 T 0xFE
+      → Packed T p → ys ++ raws xs ≡ R → p + spans (raws xs) ≤ 126 → AllFine (raws xs) → Going q R (run (take k (copies 0 p xs)) T) ⊎ Ready q R (run (take k (copies 0 p xs)) T)
   unfolding copies run sum_of
-  none_begun T ys p [] cs b S k z w e g F = let y : ys ≡ R = sym (append-nil ys) ∙ e in rw (begins_none cs b) (record { p = p; shape = rw y at S; packed = k; word = inr w })
-  none_begun T ys p (x ∷ xs) cs b S k z w e g F = let h = F.0.some in absurd (omega arith)
-
-  -- wherever the power fails
-  pub copies-cut : (T : List ℕ) (ys : List (List ℕ)) (p : ℕ) (xs : List Laid) (cs : List Step) → Begins cs (copies 0 p xs) → Shape q T ys p → (p < 126) → Word4 T 0xFE
-      → Packed T p → ys ++ raws xs ≡ R → p + spans (raws xs) ≤ 126 → AllFine (raws xs) → Going q R (run cs T) ⊎ Ready q R (run cs T)
-  unfolding copies run sum_of
-  copies-cut T ys p [] cs b H h W K e f F = rw (begins_none cs b) (inl (record { ys = ys; p = p; more = []; shape = H; word = W; all = e; fit = f; fine = tt }))
-  copies-cut T ys p (x ∷ xs) cs b H h W K e f F =
+  copies-cut T ys p [] k H h W K e f F = rw (take-nil {A = Step} k) (inl (record { ys = ys; p = p; more = []; shape = H; word = W; all = e; fit = f; fine = tt }))
+  copies-cut T ys p (x ∷ xs) k H h W K e f F =
       let r = x.raw in
       let T' = run (copying 0 p r) T in
       let d = item_end q T ys p H r F.0 (omega arith) K W in
+      let a : (ys ++ (r ∷ [])) ++ raws xs ≡ R = append_assoc ys (r ∷ []) (raws xs) ∙ e in
       ⊎_elim
-      (λ k. within (item_cut q T ys p H r F.0 (omega arith) K W cs k))
-      (λ k. rw (k.2, run-append (copying 0 p r) (k.0 ∷ k.1) T)
-      (⊎_elim (λ z. copies-cut T' (ys ++ (r ∷ [])) (p + span_of r) xs (k.0 ∷ k.1) k.3 d.0 z.0 z.1 d.1 more (omega arith) F.1)
-      (λ z. inr (none_begun T' (ys ++ (r ∷ [])) (p + span_of r) xs (k.0 ∷ k.1) k.3 d.0 d.1 z.0 z.1 more (omega arith) F.1)) d.2))
-      (begins_append cs (copying 0 p r) (copies 0 (p + span_of r) xs) b)
+      (λ c. rw c (within (item_cut q T ys p H r F.0 (omega arith) K W k) a))
+      (λ c. rw c.1 (rw (run-append (copying 0 p r) (take (suc c.0) (copies 0 (p + span_of r) xs)) T)
+      (⊎_elim (λ z. copies-cut T' (ys ++ (r ∷ [])) (p + span_of r) xs (suc c.0) d.0 z.0 z.1 d.1 a (omega arith) F.1)
+      (λ z. inr (over T' (ys ++ (r ∷ [])) (p + span_of r) xs (suc c.0) d.0 d.1 z.0 z.1 a (omega arith) F.1)) d.2)))
+      (cut-append k (copying 0 p r) (copies 0 (p + span_of r) xs))
     where
-      more : (ys ++ (x.raw ∷ [])) ++ raws xs ≡ R
-      more = append_assoc ys (x.raw ∷ []) (raws xs) ∙ e
+      over : (T' : List ℕ) (ys' : List (List ℕ)) (p' : ℕ) (xs : List Laid) (j : ℕ) → Shape q T' ys' p' → Packed T' p' → p' ≡ 126 → Word4 T' 0xFC → ys' ++ raws xs ≡ R
+          → p' + spans (raws xs) ≤ 126 → AllFine (raws xs) → Ready q R (run (take j (copies 0 p' xs)) T')
+      over T' ys' p' [] j S k z w a g K = let y : ys' ≡ R = sym (append-nil ys') ∙ a in rw (take-nil {A = Step} j) (record { p = p'; shape = rw y at S; packed = k; word = inr w })
+      over T' ys' p' (y ∷ xs) j S k z w a g K = let b = K.0.some in absurd (omega arith)
 
-      not_there : {T2 : List ℕ} → Shape q T2 ys p → Word4 T2 0xFE → Going q R T2
-      not_there S w = record { ys = ys; p = p; more = x.raw ∷ raws xs; shape = S; word = w; all = e; fit = f; fine = F }
-
-      there : {T2 : List ℕ} → Shape q T2 (ys ++ (x.raw ∷ [])) (p + span_of x.raw) → Word4 T2 0xFE → Going q R T2
-      there S w = record { ys = ys ++ (x.raw ∷ []); p = p + span_of x.raw; more = raws xs; shape = S; word = w; all = more; fit = omega arith; fine = F.1 }
+      none_left : (p' : ℕ) (xs : List Laid) → p' ≡ 126 → p' + spans (raws xs) ≤ 126 → AllFine (raws xs) → raws xs ≡ []
+      none_left p' [] z g K = refl
+      none_left p' (y ∷ xs) z g K = let b = K.0.some in absurd (omega arith)
 
       within : {T2 : List ℕ}
-          → ((Shape q T2 ys p × Word4 T2 0xFE) ⊎ (Shape q T2 (ys ++ (x.raw ∷ [])) (p + span_of x.raw) × Word4 T2 0xFE)) ⊎
-          (Shape q T2 (ys ++ (x.raw ∷ [])) (p + span_of x.raw) × Packed T2 (p + span_of x.raw) × (((p + span_of x.raw < 126) × Word4 T2 0xFE) ⊎ ((p + span_of x.raw ≡ 126) × Word4 T2 0xFC)))
-          → Going q R T2 ⊎ Ready q R T2
-      within (inl (inl z)) = inl (not_there z.0 z.1)
-      within (inl (inr z)) = inl (there z.0 z.1)
-      within (inr (s, k, inl z)) = inl (there s z.1)
-      within (inr (s, k, inr z)) =
-          let y : ys ++ (x.raw ∷ []) ≡ R = sym (append-nil (ys ++ (x.raw ∷ []))) ∙ ap {B = List (List ℕ)} (λ (w : List (List ℕ)). (ys ++ (x.raw ∷ [])) ++ w) (sym (none_left (p + span_of x.raw) xs z.0 (omega arith) F.1)) ∙ more in
+          → (Shape q T2 ys p × Word4 T2 0xFE) ⊎
+          ((Shape q T2 (ys ++ (x.raw ∷ [])) (p + span_of x.raw) × Word4 T2 0xFE) ⊎ (Shape q T2 (ys ++ (x.raw ∷ [])) (p + span_of x.raw) × Packed T2 (p + span_of x.raw) × (((p + span_of x.raw < 126) × Word4 T2 0xFE) ⊎ ((p + span_of x.raw ≡ 126) × Word4 T2 0xFC))))
+          → (ys ++ (x.raw ∷ [])) ++ raws xs ≡ R → Going q R T2 ⊎ Ready q R T2
+      within (inl z) a = inl (record { ys = ys; p = p; more = x.raw ∷ raws xs; shape = z.0; word = z.1; all = e; fit = f; fine = F })
+      within (inr (inl z)) a =
+          inl (record { ys = ys ++ (x.raw ∷ []); p = p + span_of x.raw; more = raws xs; shape = z.0; word = z.1; all = a; fit = omega arith; fine = F.1 })
+      within (inr (inr (s, k, inl z))) a =
+          inl (record { ys = ys ++ (x.raw ∷ []); p = p + span_of x.raw; more = raws xs; shape = s; word = z.1; all = a; fit = omega arith; fine = F.1 })
+      within (inr (inr (s, k, inr z))) a =
+          let y : ys ++ (x.raw ∷ []) ≡ R = sym (append-nil (ys ++ (x.raw ∷ []))) ∙ ap {B = List (List ℕ)} (λ (w : List (List ℕ)). (ys ++ (x.raw ∷ [])) ++ w) (sym (none_left (p + span_of x.raw) xs z.0 (omega arith) F.1)) ∙ a in
           inr (record { p = p + span_of x.raw; shape = rw y at s; packed = k; word = inr z.1 })
 
 ⊎_swap : {A B : Type 0} → A ⊎ B → B ⊎ A

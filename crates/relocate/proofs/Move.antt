@@ -1,27 +1,26 @@
--- Moving the items of a sector: wherever the power fails in it, on the image. Assumes nothing.
+-- Moving the items of a sector: every cut of it, on the image. Assumes nothing.
 use mathlib.Core.Path.{◌∙◌, ◌≡◌, refl, sym}
 use mathlib.Core.Logic.{◌⊎◌, inl, inr, ⊎_elim}
 use mathlib.Core.Bool.{Bool, cond, false, true}
 use mathlib.Core.List.{List, [], ◌++◌, ◌∷◌}
-use Prim.Native.Nat.{◌*◌, ◌+◌, ◌≤◌, ℕ}
+use Prim.Native.Nat.{◌*◌, ◌+◌, ◌≤◌, suc, zero, ℕ}
 use native.Mathlib.Omega.{arith}
-use lib.ListN.{length}
+use lib.ListN.{length, take}
+use lib.Seq.{take-nil}
 use Rattle.page.specs.State.{all_ones, is_free, state_of}
 use Rattle.page.specs.Walk.{Laid}
 use Rattle.page.proofs.Read.{ones_byte}
 use Rattle.flash.specs.Words.{words}
 use Rattle.flash.specs.Step.{Step, blank, erase, run, sector}
-use Rattle.flash.specs.Torn.{Begins}
-use Rattle.flash.proofs.Begins.{begins_append, begins_erase, begins_fit, begins_in, begins_none, begins_shift, begins_whole}
 use Rattle.flash.proofs.Erased.{blank-byte, erased-blank, length-sector}
-use Rattle.flash.proofs.Frame.{erase_in, length_run, sector-kept}
-use Rattle.flash.proofs.Laws.{run-append}
-use Rattle.flash.proofs.Lent.{AllFit, Fit, sector-local, shift, shift_in}
-use Rattle.flash.proofs.Every.{every_append}
+use Rattle.flash.proofs.Frame.{In, erase_in, length_run, sector-kept}
+use Rattle.flash.proofs.Laws.{cut-append, run-append}
+use Rattle.flash.proofs.Lent.{AllFit, Fit, sector-local, shift, shift_in, take-shift}
+use Rattle.flash.proofs.Every.{every_append, every_take}
 use Rattle.item.specs.Initialise.{clearing, header}
 use Rattle.item.proofs.Local.{header_fit}
 use Rattle.item.proofs.Clearing.{clearing_in}
-use Rattle.item.proofs.Fresh.{blank_free, init_junk, init_last, init_packed, init_shape, init_word, init_steps}
+use Rattle.item.proofs.Fresh.{blank_free, init_junk, init_packed, init_shape, init_word, init_steps}
 use Rattle.item.proofs.Packed.{Ones, Packed}
 use Rattle.item.proofs.Shape.{AllFine, raws}
 use Rattle.relocate.specs.Move.{copies, moving}
@@ -40,23 +39,23 @@ module _ (q : ℕ) (xs : List Laid) (F : AllFine (raws xs)) (fit : spans (raws x
     start : Going q (raws xs) I
     start = record { ys = []; p = 0; more = raws xs; shape = init_shape q T len on; word = init_word q T len on; all = refl; fit = omega arith; fine = F }
 
-    -- no page yet, a part of the items, or all of them
-    abbrev Filled : List ℕ → Type 0
-    Filled T2 = (is_free (state_of T2) ≡ true) ⊎ (Going q (raws xs) T2 ⊎ Ready q (raws xs) T2)
+    fill-cut : (k : ℕ)
+        → (is_free (state_of (run (take k (fill q xs)) T)) ≡ true) ⊎ (Going q (raws xs) (run (take k (fill q xs)) T) ⊎ Ready q (raws xs) (run (take k (fill q xs)) T))
+    fill-cut k = ⊎_elim
+        (λ e. rw e (head k))
+        (λ e. rw e.1 (rw (run-append (init_steps q) (take (suc e.0) (copies 0 0 xs)) T)
+        (inr (copies-cut q (raws xs) I [] 0 xs (suc e.0) (init_shape q T len on) (omega arith) (init_word q T len on) (init_packed q T len on) refl (omega arith) F))))
+        (cut-append k (init_steps q) (copies 0 0 xs))
+      where
+        one_left : (j : ℕ) → take (suc j) (words 0 (header q) 0 1) ≡ words 0 (header q) 0 1
+        one_left j = unfold words in rw (take-nil {A = Step} j)
 
-    -- in the header
-    head-cut : (cs : List Step) → Begins cs (init_steps q) → Filled (run cs T)
-    head-cut cs b =
-        ⊎_elim (λ k. inl (init_junk q T len on cs k))
-        (λ k. rw (k.2, run-append (words 0 (header q) 1 7) (k.0 ∷ k.1) T) (⊎_elim (λ e. inl e) (λ e. rw e (inr (inl start))) (init_last q T len on (k.0 ∷ k.1) k.3)))
-        (begins_append cs (words 0 (header q) 1 7) (words 0 (header q) 0 1) b)
-
-    fill-cut : (cs : List Step) → Begins cs (fill q xs) → Filled (run cs T)
-    fill-cut cs b =
-        ⊎_elim (λ k. head-cut cs k)
-        (λ k. rw (k.2, run-append (init_steps q) (k.0 ∷ k.1) T)
-        (inr (copies-cut q (raws xs) I [] 0 xs (k.0 ∷ k.1) k.3 (init_shape q T len on) (omega arith) (init_word q T len on) (init_packed q T len on) refl (omega arith) F)))
-        (begins_append cs (init_steps q) (copies 0 0 xs) b)
+        head : (k : ℕ)
+            → (is_free (state_of (run (take k (init_steps q)) T)) ≡ true) ⊎
+            (Going q (raws xs) (run (take k (init_steps q)) T) ⊎ Ready q (raws xs) (run (take k (init_steps q)) T))
+        head k =
+            ⊎_elim (λ e. inl (rw e (init_junk q T len on k))) (λ e. inr (inl (rw (e.1, one_left e.0) start)))
+            (cut-append k (words 0 (header q) 1 7) (words 0 (header q) 0 1))
 
   fill_fit : AllFit 4096 (fill q xs)
   fill_fit = every_append (Fit 4096) _ _ (header_fit (header q)) (fine_fit 0 xs F (omega arith))
@@ -76,13 +75,14 @@ module _ (q : ℕ) (xs : List Laid) (F : AllFine (raws xs)) (fit : spans (raws x
     len_t : length (sector t l) ≡ 4096
     len_t = length-sector t l ∙ omega arith
 
-    clear-cut : (cs : List Step) → Begins cs (clearing t l) → is_free (state_of (sector t (run cs l))) ≡ true
+    clear-cut : (k : ℕ) → is_free (state_of (sector t (run (take k (clearing t l)) l))) ≡ true
     unfolding clearing
-    clear-cut cs b = go (all_ones (sector t l)) b
+    clear-cut k = go (all_ones (sector t l)) k
       where
-        go : (c : Bool) → Begins cs (cond c [] (erase t ∷ [])) → is_free (state_of (sector t (run cs l))) ≡ true
-        go true b = rw (begins_none cs b) (unfold run in free)
-        go false b = ⊎_elim (λ e. rw e (unfold run in free)) (λ e. rw (e.1, begins_none e.0 e.2, erased-blank l t ht) blank_free) (begins_erase cs t [] b)
+        go : (b : Bool) (k : ℕ) → is_free (state_of (sector t (run (take k (cond b [] (erase t ∷ []))) l))) ≡ true
+        go true k = rw (take-nil {A = Step} k) (unfold run in free)
+        go false zero = unfold run in free
+        go false (suc k) = rw (take-nil {A = Step} k) (rw (erased-blank l t ht) blank_free)
 
     clear_ones : Ones (sector t l1) 0
     unfolding clearing
@@ -105,15 +105,14 @@ module _ (q : ℕ) (xs : List Laid) (F : AllFine (raws xs)) (fit : spans (raws x
     others_2 ss f u k = sector-kept u t (shift (t * 4096) ss) l1 k (shift_in (t * 4096) 4096 ss f) ∙ others_1 u k
 
     -- in the filling
-    filling : (cs : List Step) → Begins cs (shift (t * 4096) (fill q xs)) → Cut s t l (run cs l1)
-    filling cs b = let d = begins_shift (t * 4096) cs (fill q xs) b in rw d.1 (go d.0 d.2)
-      where
-        go : (ds : List Step) → Begins ds (fill q xs) → Cut s t l (run (shift (t * 4096) ds) l1)
-        go ds b =
-            let f = begins_fit 4096 ds (fill q xs) b fill_fit in
-            let loc = sector-local t ds l1 f in
-            let o = others_2 ds f in
-            ⊎_elim (λ c. unmade o (rw loc c)) (λ c. ⊎_elim (λ d. going o (rw loc d)) (λ d. ready o (rw loc d)) c) (fill-cut (sector t l1) len_t1 clear_ones ds b)
+    filling : (j : ℕ) → Cut s t l (run (take j (shift (t * 4096) (fill q xs))) l1)
+    filling j =
+        let ss = take j (fill q xs) in
+        let f = every_take (Fit 4096) j (fill q xs) fill_fit in
+        let loc = sector-local t (take j (fill q xs)) l1 f in
+        let o = others_2 (take j (fill q xs)) f in
+        rw (take-shift (t * 4096) j (fill q xs))
+        (⊎_elim (λ c. unmade o (rw loc c)) (λ c. ⊎_elim (λ d. going o (rw loc d)) (λ d. ready o (rw loc d)) c) (fill-cut (sector t l1) len_t1 clear_ones j))
 
     abbrev Whole : List ℕ → Type 0
     Whole m = ((u : ℕ) → (u ≡ t → ⊥) → (u ≡ s → ⊥) → sector u m ≡ sector u l) × Ready q (raws xs) (sector t m) × (sector s m ≡ blank 4096)
@@ -135,21 +134,15 @@ module _ (q : ℕ) (xs : List Laid) (F : AllFine (raws xs)) (fit : spans (raws x
     pub moved-packed : Packed (sector t (run (moving s t q xs l) l)) (spans (raws xs))
     moved-packed = ready-packed q (raws xs) (sector t (run (moving s t q xs l) l)) move_end.1
 
-    -- and wherever the power fails
-    pub move_cut : (cs : List Step) → Begins cs (moving s t q xs l) → Cut s t l (run cs l)
-    move_cut cs b =
-        ⊎_elim
-        (λ k. unmade (λ u a. sector-kept u t cs l a (begins_in (t * 4096) (t * 4096 + 4096) cs _ k (clearing_in t l))) (clear-cut cs k))
-        (λ k. rw (k.2, run-append (clearing t l) (k.0 ∷ k.1) l) (past (k.0 ∷ k.1) k.3))
-        (begins_append cs (clearing t l) (shift (t * 4096) (fill q xs) ++ (erase s ∷ [])) (rw (moving-fills s t q xs l) at b))
+    -- and every cut
+    pub move_cut : (k : ℕ) → Cut s t l (run (take k (moving s t q xs l)) l)
+    move_cut k = rw (moving-fills s t q xs l) (⊎_elim
+        (λ e. rw e (unmade (λ u a. sector-kept u t (take k (clearing t l)) l a (every_take (In (t * 4096) (t * 4096 + 4096)) k _ (clearing_in t l))) (clear-cut k)))
+        (λ e. rw e.1 (rw (run-append (clearing t l) (take (suc e.0) (shift (t * 4096) (fill q xs) ++ (erase s ∷ []))) l) (past e.0)))
+        (cut-append k (clearing t l) (shift (t * 4096) (fill q xs) ++ (erase s ∷ []))))
       where
-        filled : List Step
-        filled = shift (t * 4096) (fill q xs)
-
-        last : (d : Step) (ds : List Step) → Begins (d ∷ ds) (erase s ∷ []) → Cut s t l (run (d ∷ ds) (run filled l1))
-        last d ds b =
-            ⊎_elim (λ e. rw e (unfold run in filling filled (begins_whole filled))) (λ e. rw (e.1, begins_none e.0 e.2) (ended whole.0 whole.1 whole.2))
-            (begins_erase (d ∷ ds) s [] b)
-
-        past : (ds : List Step) → Begins ds (filled ++ (erase s ∷ [])) → Cut s t l (run ds l1)
-        past ds b = ⊎_elim (λ k. filling ds k) (λ k. rw (k.2, run-append filled (k.0 ∷ k.1) l1) (last k.0 k.1 k.3)) (begins_append ds filled (erase s ∷ []) b)
+        past : (j : ℕ) → Cut s t l (run (take (suc j) (shift (t * 4096) (fill q xs) ++ (erase s ∷ []))) l1)
+        past j = ⊎_elim
+            (λ e. rw e (filling (suc j)))
+            (λ e. rw e.1 (rw (take-nil {A = Step} e.0) (rw (run-append (shift (t * 4096) (fill q xs)) (erase s ∷ []) l1) (ended whole.0 whole.1 whole.2))))
+            (cut-append (suc j) (shift (t * 4096) (fill q xs)) (erase s ∷ []))

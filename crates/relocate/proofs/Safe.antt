@@ -1,15 +1,16 @@
--- Wherever the power fails in a move, the source is as it was until its last step, which erases it, and the other sectors are as they were. Assumes nothing.
-use mathlib.Core.Path.{◌≡◌, sym, ◌∙◌}
-use mathlib.Core.Logic.{◌⊎◌, inl, inr, ⊎_elim}
-use mathlib.Core.List.{List, [], ◌∷◌, ◌++◌, append_assoc, append-nil}
-use Prim.Native.Nat.{ℕ, ◌+◌, ◌*◌}
+-- Wherever a move is cut, the source is as it was until its last step, which erases it, and the other sectors are as they were. Assumes nothing.
+use mathlib.Core.Path.{◌≡◌, sym, ap, ◌∙◌}
+use mathlib.Core.Logic.{⊎_elim}
+use mathlib.Core.List.{List, [], ◌∷◌, ◌++◌, append_assoc}
+use Prim.Native.Nat.{ℕ, suc, ◌+◌, ◌*◌, ◌<◌}
+use native.Mathlib.Omega.{arith}
+use lib.ListN.{length, take, length-append}
+use lib.Seq.{take-append-le}
 use Rattle.page.specs.Walk.{walk}
 use Rattle.flash.specs.Step.{Step, erase, run, sector}
-use Rattle.flash.specs.Torn.{Begins}
-use Rattle.flash.proofs.Begins.{begins_append, begins_erase, begins_in, begins_none, begins_whole}
-use Rattle.flash.proofs.Every.{every_append}
-use Rattle.flash.proofs.Laws.{run-append}
-use Rattle.flash.proofs.Frame.{In, AllIn, erase_in, sector-kept}
+use Rattle.flash.proofs.Every.{every_append, every_one, every_take}
+use Rattle.flash.proofs.Laws.{run-append, cut-append}
+use Rattle.flash.proofs.Frame.{In, AllIn, sector-kept}
 use Rattle.item.specs.Initialise.{header, initialising}
 use Rattle.item.proofs.Safe.{initialising_in}
 use Rattle.relocate.specs.Move.{copies, moving}
@@ -28,17 +29,21 @@ module _ (s t q : ℕ) (x l : List ℕ) where
   building_in : AllIn (t * 4096) (t * 4096 + 4096) building
   building_in = every_append (In (t * 4096) (t * 4096 + 4096)) _ _ (initialising_in t (header q) l) (copies_in (t * 4096) x)
 
-  leaves : (u : ℕ) (cs : List Step) → Begins cs building → (u ≡ t → ⊥) → sector u (run cs l) ≡ sector u l
-  leaves u cs b ne = sector-kept u t cs l ne (begins_in (t * 4096) (t * 4096 + 4096) cs building b building_in)
+  leaves : (u c : ℕ) → (u ≡ t → ⊥) → sector u (run (take c building) l) ≡ sector u l
+  leaves u c ne = sector-kept u t (take c building) l ne (every_take (In (t * 4096) (t * 4096 + 4096)) c building building_in)
 
-  pub source_stays : (s ≡ t → ⊥) → (cs : List Step) → Begins cs (moving s t q (walk x 126 0) l) → (sector s (run cs l) ≡ sector s l) ⊎ (cs ≡ moving s t q (walk x 126 0) l)
-  source_stays ne cs b =
-      ⊎_elim (λ k. inl (leaves s cs k ne)) (λ k. ⊎_elim (λ e. inl (rw ((rw e at k.2) ∙ append-nil building) (leaves s building (begins_whole building) ne)))
-      (λ e. inr (k.2 ∙ rw (e.1, begins_none e.0 e.2) (sym moving_is))) (begins_erase (k.0 ∷ k.1) s [] k.3)) (begins_append cs building (erase s ∷ []) (rw moving_is at b))
+  pub source_stays : (s ≡ t → ⊥) → (c : ℕ) → c < length (moving s t q (walk x 126 0) l) → sector s (run (take c (moving s t q (walk x 126 0) l)) l) ≡ sector s l
+  source_stays ne c h =
+      let n = length-append building (erase s ∷ []) in
+      let k = ap length moving_is in
+      ap (λ (z : List Step). sector s (run z l)) (ap (take c) moving_is ∙ take-append-le c building (erase s ∷ []) (omega arith)) ∙ leaves s c ne
 
-  pub others-stay : (u : ℕ) → (u ≡ s → ⊥) → (u ≡ t → ⊥) → (cs : List Step) → Begins cs (moving s t q (walk x 126 0) l) → sector u (run cs l) ≡ sector u l
-  others-stay u us ut cs b =
-      ⊎_elim (λ k. leaves u cs k ut)
-      (λ k. rw (k.2, run-append building (k.0 ∷ k.1) l)
-      (sector-kept u s (k.0 ∷ k.1) (run building l) us (begins_in (s * 4096) (s * 4096 + 4096) (k.0 ∷ k.1) _ k.3 (erase_in s)) ∙ sector-kept u t building l ut building_in))
-      (begins_append cs building (erase s ∷ []) (rw moving_is at b))
+  pub others-stay : (u : ℕ) → (u ≡ s → ⊥) → (u ≡ t → ⊥) → (c : ℕ) → sector u (run (take c (moving s t q (walk x 126 0) l)) l) ≡ sector u l
+  others-stay u us ut c =
+      rw moving_is (⊎_elim (λ e. rw e (leaves u c ut)) (λ e. rw (e.1, run-append building (take (suc e.0) (erase s ∷ [])) l) (last e.0)) (cut-append c building (erase s ∷ [])))
+    where
+      last : (j : ℕ) → sector u (run (take (suc j) (erase s ∷ [])) (run building l)) ≡ sector u l
+      last j =
+          sector-kept u s _ (run building l) us
+          (every_take (In (s * 4096) (s * 4096 + 4096)) (suc j) (erase s ∷ []) (every_one (In (s * 4096) (s * 4096 + 4096)) (erase s) (omega arith, omega arith)))
+          ∙ sector-kept u t building l ut building_in
