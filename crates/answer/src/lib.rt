@@ -1,4 +1,6 @@
 // What a call answers, and the stages of a stopped one.
+#![tactic(auto)]
+
 ghost use Rattle.std.specs.Prelude.{◌≡◌};
 ghost use Rattle.answer.specs.Answer.{number_of, steps_of};
 ghost use Rattle.answer.specs.Went.{in_stage, told_of};

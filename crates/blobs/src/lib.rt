@@ -1,4 +1,6 @@
 // Recovery's third stage: blobs that are not whole, and the older of two.
+#![tactic(auto)]
+
 mod front;
 mod stage;
 

@@ -2,6 +2,8 @@
 //
 // The table is a constant array that a call makes once and lends to whatever it calls: an array that is indexed where it stands is stored to the
 // stack at every use.
+#![tactic(auto)]
+
 ghost use Rattle.std.specs.Prelude.{◌≡◌, ◌+◌, ◌*◌, ◌<◌, ◌≤◌, length};
 ghost use Rattle.word.specs.Number.{part};
 ghost use Rattle.crc.specs.Crc.{crc_bits, crc_from, crc_of, complement};

@@ -1,4 +1,6 @@
 // The items of one group in recovery's fourth stage: all but the newest go.
+#![tactic(auto)]
+
 mod old;
 mod run;
 

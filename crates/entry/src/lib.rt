@@ -1,4 +1,6 @@
 // The entries of a page: their states and totals, and what an entry's bytes say.
+#![tactic(auto)]
+
 mod fields;
 mod kinds;
 mod states;

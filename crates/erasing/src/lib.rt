@@ -1,4 +1,6 @@
 // Items erased, each by its place.
+#![tactic(auto)]
+
 ghost use Rattle.std.specs.Prelude.{◌+◌, ◌%◌, ◌≤◌};
 ghost use Rattle.flash.specs.Did.{Did};
 ghost use Rattle.item.specs.Erase.{erasing};

@@ -1,4 +1,6 @@
 // Recovery, stage 2: finish.
+#![tactic(auto)]
+
 mod judge;
 mod newest;
 mod rounds;

@@ -1,4 +1,6 @@
 // Recovery, stage 2: round after round, until no page counts as Freeing.
+#![tactic(auto)]
+
 ghost use Rattle.std.specs.Prelude.{◌≡◌, ◌+◌, ◌≤◌};
 ghost use Rattle.crc.specs.Table.{crc_table};
 ghost use Rattle.lists.specs.Lists.{greatest};

@@ -1,4 +1,6 @@
 // What is tested of each part of a blob, by what the table leads to.
+#![tactic(auto)]
+
 ghost use Rattle.std.specs.Prelude.{◌≡◌, cond, ◌≤◌, ◌<◌};
 ghost use Rattle.found.specs.Places.{item_at, Placed};
 ghost use Rattle.found.specs.Ranks.{rank_number};

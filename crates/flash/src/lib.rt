@@ -1,4 +1,6 @@
 // The flash model: a word is programmed, a sector is erased, and each is a step that an allowance pays for.
+#![tactic(auto)]
+
 ghost use Rattle.std.specs.Prelude.{◌≡◌, [], ◌∷◌, ◌+◌, ◌-◌, ◌*◌, ◌≤◌, length};
 ghost use Rattle.flash.specs.Step.{program, erase, blank};
 ghost use Rattle.flash.specs.Words.{words};

@@ -1,4 +1,6 @@
 // The items of the listed pages, each known by its place: the number of its first block of 32 bytes in the image.
+#![tactic(auto)]
+
 mod chunks;
 mod items;
 mod places;

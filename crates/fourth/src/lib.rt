@@ -1,4 +1,6 @@
 // Recovery's fourth stage: groups in ascending order, then the last mark: an Active page that has no Empty entry left is closed.
+#![tactic(auto)]
+
 ghost use Rattle.std.specs.Prelude.{◌≡◌, ◌+◌, ◌*◌, ◌≤◌, length, take};
 ghost use mathlib.Core.List.{map, flat_map};
 ghost use Rattle.entry.specs.States.{empty, count_state};

@@ -1,4 +1,6 @@
 // Places gathered once, so that a stage walks the image once.
+#![tactic(auto)]
+
 ghost use Rattle.std.specs.Prelude.{◌≡◌, map, ◌≤◌, length, take};
 ghost use Rattle.crc.specs.Table.{crc_table};
 ghost use Rattle.records.specs.Notes.{Noted};

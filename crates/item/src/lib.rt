@@ -1,4 +1,6 @@
 // What is done to a page, each operation as the list of steps that document 01 gives for it.
+#![tactic(auto)]
+
 mod copy;
 mod erase;
 mod initial;

@@ -1,4 +1,6 @@
 // A version judged, and of two sound ones the older.
+#![tactic(auto)]
+
 mod chunks;
 
 ghost use Rattle.std.specs.Prelude.{◌≡◌, ◌<◌};

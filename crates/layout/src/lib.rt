@@ -1,4 +1,5 @@
 // The numbers of the public flash layout that the code goes by. Contracts and definitions have them as document 01 writes them, in figures.
+#![tactic(auto)]
 
 // A sector: 4,096 bytes; an image has at most sixteen.
 pub const SECTOR_BYTES: usize = 4096;

@@ -1,4 +1,6 @@
 // A program's way to recovery's lent records: they stand in an array by value.
+#![tactic(auto)]
+
 ghost use Rattle.std.specs.Prelude.{◌≡◌, ◌≤◌, take, drop};
 ghost use Rattle.recover.specs.Promise.{RecoverPromise};
 

@@ -1,4 +1,6 @@
 // The lines of a listing.
+#![tactic(auto)]
+
 ghost use Rattle.std.specs.Prelude.{◌≤◌, length};
 ghost use Rattle.text.specs.Text.{Put};
 ghost use Rattle.lines.specs.Lines.{state_name, counts, page_text, line, head};

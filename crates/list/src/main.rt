@@ -1,4 +1,6 @@
 // Lists an image: the file that the argument names, or standard input where there is none. The file is only read.
+#![tactic(auto)]
+
 ghost use Rattle.std.specs.Prelude.{◌≤◌};
 
 use libc::{STDERR_FILENO, STDIN_FILENO, STDOUT_FILENO};

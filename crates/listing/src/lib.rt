@@ -1,4 +1,6 @@
 // The listing of an image: it is recovered, and each sector's record is a line.
+#![tactic(auto)]
+
 ghost use Rattle.io.specs.Counts.{IsPrefixLen};
 ghost use Rattle.listing.specs.Listing.{Listed};
 

@@ -1,5 +1,7 @@
 // The entry states of a span, in the sector at `base`: `n` entries from entry `j` on, one a step. The header's state decides whether the item is
 // there, so it is the first to be set Written and the last to be set Erased.
+#![tactic(auto)]
+
 ghost use Rattle.std.specs.Prelude.{◌≡◌, [], ◌∷◌, ◌+◌, ◌*◌, ◌%◌, ◌^◌, ◌≤◌, ◌<◌, length};
 ghost use Rattle.flash.specs.Did.{Did};
 ghost use Rattle.marking.specs.Marking.{state_step, marking, unmarking};

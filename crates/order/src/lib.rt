@@ -1,4 +1,6 @@
 // Recovery, stage 1: Active order.
+#![tactic(auto)]
+
 ghost use Rattle.std.specs.Prelude.{◌≡◌, cond, [], ◌∷◌, ◌++◌, map, ◌+◌, ◌*◌, ◌≤◌, length};
 ghost use Rattle.flash.specs.Did.{Did};
 ghost use Rattle.item.specs.Mark.{mark_full};

@@ -1,4 +1,6 @@
 // A page read from the bytes of its sector: its state, what the scan sees of it, its items, its record.
+#![tactic(auto)]
+
 mod record;
 mod seen;
 mod state;

@@ -1,4 +1,6 @@
 // What a reclaim is to do, worked out from the page table alone.
+#![tactic(auto)]
+
 ghost use Rattle.std.specs.Prelude.{◌≡◌, ◌+◌, ◌≤◌, ◌<◌};
 ghost use mathlib.Core.List.{get_last?};
 ghost use Rattle.lists.specs.Lists.{greatest};

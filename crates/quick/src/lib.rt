@@ -1,4 +1,6 @@
 // Whether stages 3 and 4 have nothing to repair, in time linear in the items: a table leads from names to items, and each part of a blob is tested by it.
+#![tactic(auto)]
+
 ghost use Rattle.std.specs.Prelude.{◌≡◌, true, false, map, ◌≤◌, length};
 ghost use Rattle.crc.specs.Table.{crc_table};
 ghost use Rattle.table.specs.Table.{listed, Sized};

@@ -1,4 +1,6 @@
 // The item reader: it keeps a lent sector, its place on it and how many entries it has passed over unread. The walk itself is on a plain slice and numbers.
+#![tactic(auto)]
+
 ghost use Rattle.std.specs.Prelude.{◌≡◌};
 ghost use Rattle.reading.specs.Reading.{read_on};
 ghost use Rattle.reader.specs.Reader.{read_from, new_reader, read_next, moved_reader};

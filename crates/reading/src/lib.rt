@@ -1,4 +1,6 @@
 // What is read at a place of a lent sector: the walk of the item reader, on a plain slice and numbers.
+#![tactic(auto)]
+
 ghost use Rattle.std.specs.Prelude.{◌≡◌, length};
 ghost use Rattle.crc.specs.Table.{crc_table};
 ghost use Rattle.page.specs.Walk.{walk};

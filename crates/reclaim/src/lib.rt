@@ -1,4 +1,6 @@
 // Reclaim: the page that wins most by it is copied to a fresh sector without its Erased entries, and erased.
+#![tactic(auto)]
+
 ghost use Rattle.std.specs.Prelude.{◌≡◌, ◌+◌, ◌*◌, ◌≤◌, length};
 ghost use Rattle.crc.specs.Table.{crc_table};
 ghost use Rattle.flash.specs.Did.{Did};

@@ -1,4 +1,6 @@
 // The page records of an image: made of what the scan saw and the walks counted, and stored into the records that a caller lends.
+#![tactic(auto)]
+
 mod scanned;
 
 ghost use Rattle.std.specs.Prelude.{◌≡◌, ◌+◌, ◌*◌, ◌<◌, ◌≤◌, length, get_or};

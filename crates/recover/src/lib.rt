@@ -1,4 +1,6 @@
 // Recovery: what power loss left unfinished is finished, and what is there twice is left once.
+#![tactic(auto)]
+
 ghost use Rattle.std.specs.Prelude.{◌≡◌, ◌*◌, ◌≤◌, length};
 ghost use Rattle.crc.specs.Table.{crc_table};
 ghost use Rattle.table.specs.Table.{listed, Sized};

@@ -1,4 +1,6 @@
 // Move a page: its items are copied to a fresh sector, and only then is it erased. Wherever the steps are cut, one of the two has all the items.
+#![tactic(auto)]
+
 ghost use Rattle.std.specs.Prelude.{◌≡◌, ◌+◌, ◌*◌, ◌≤◌, length};
 ghost use Rattle.crc.specs.Table.{crc_table};
 ghost use Rattle.page.specs.Walk.{walk};

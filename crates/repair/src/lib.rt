@@ -1,4 +1,6 @@
 // Recovery's stages 3 and 4 in sequence.
+#![tactic(auto)]
+
 ghost use Rattle.std.specs.Prelude.{◌≡◌, ◌≤◌, map, length, take};
 ghost use Rattle.crc.specs.Table.{crc_table};
 ghost use Rattle.answer.specs.Staged.{tag};

@@ -9,6 +9,8 @@
 //     op 3      the listing: u32 length, the text
 //
 // Input that ends inside a case, a length above 131,072, more than 32 records and an op that is none end the run after the last whole case.
+#![tactic(auto)]
+
 mod bytes;
 mod calls;
 mod items;

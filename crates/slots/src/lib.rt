@@ -1,4 +1,6 @@
 // A table of the judged items, by their names. A slot holds an item's place, which is never 0, so that 0 is a free slot.
+#![tactic(auto)]
+
 mod names;
 
 ghost use Rattle.std.specs.Prelude.{◌≡◌, true, false, List, ◌++◌, ℕ, ◌≤◌, get_or};

@@ -1,4 +1,6 @@
 // The places of items sorted, by a merge sort in which equals stay in order.
+#![tactic(auto)]
+
 mod choice;
 mod ends;
 mod merging;

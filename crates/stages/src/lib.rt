@@ -1,4 +1,6 @@
 // Recovery's stages in sequence.
+#![tactic(auto)]
+
 ghost use Rattle.std.specs.Prelude.{◌≡◌, ◌+◌, ◌≤◌, ◌*◌, length, false};
 ghost use Rattle.crc.specs.Table.{crc_table};
 ghost use Rattle.lists.specs.Lists.{greatest};

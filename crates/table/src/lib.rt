@@ -1,4 +1,6 @@
 // The page table: what the scan finds, by value.
+#![tactic(auto)]
+
 ghost use Rattle.std.specs.Prelude.{◌≡◌, ℕ, max, ◌-◌, ◌*◌, ◌≤◌, ◌<◌, length};
 ghost use mathlib.Core.List.{List, [], ◌∷◌, ◌++◌, drop_last};
 ghost use Rattle.crc.specs.Table.{crc_table};

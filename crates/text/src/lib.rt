@@ -1,4 +1,6 @@
 // Text into a lent slice. Each function answers where the next byte goes; what has no room is left out.
+#![tactic(auto)]
+
 ghost use Rattle.std.specs.Prelude.{[], ◌∷◌, ◌≤◌, length};
 ghost use Rattle.text.specs.Text.{Put};
 ghost use Rattle.text.specs.Text.{decimal as decimal_of};

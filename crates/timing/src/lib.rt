@@ -1,4 +1,6 @@
 // C names for the benchmark and the cuts: the proved code as it stands, on plain slices. Nothing here is offered to users.
+#![tactic(auto)]
+
 ghost use Rattle.std.specs.Prelude.{◌≡◌, ◌≤◌, length};
 
 use answer::Answer;

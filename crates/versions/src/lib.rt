@@ -1,4 +1,6 @@
 // A blob's versions: which index counts, and whether the chunks are as it says.
+#![tactic(auto)]
+
 mod sound;
 
 pub use sound::{Newest, is_sound, newest_of};

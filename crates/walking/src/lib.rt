@@ -1,4 +1,6 @@
 // The walk of a sector that stores the places of its items.
+#![tactic(auto)]
+
 ghost use Rattle.std.specs.Prelude.{◌≡◌, ◌++◌, map, ◌+◌, ◌≤◌, length, take};
 ghost use Rattle.crc.specs.Table.{crc_table};
 ghost use Rattle.page.specs.Walk.{Laid, walk};

@@ -1,4 +1,6 @@
 // Numbers from bytes.
+#![tactic(auto)]
+
 ghost use Rattle.std.specs.Prelude.{◌≡◌, ◌+◌, ◌<◌, ◌≤◌, length};
 ghost use Rattle.word.specs.Number.{le, be};
 
