@@ -1,5 +1,5 @@
 -- The numbers of a list ascending are the members of the list. Assumes nothing.
-use mathlib.Core.Path.{◌≡◌, refl, ap}
+use mathlib.Core.Path.{◌≡◌, refl, ap, subst}
 use mathlib.Core.Logic.{inl, inr, ⊎_elim}
 use mathlib.Core.Bool.{Bool, true, false, cond}
 use mathlib.Core.Option.{Option, none, some}
@@ -48,16 +48,16 @@ least_some v (x ∷ xs) w e = go (least_from v xs) refl e (least_some v xs)
     two false q r f = absurd (none≢some refl f)
 
     four : (b : Bool) (y : ℕ) → ltb y x ≡ b → v ≤ x → Least v xs y → cond b y x ≡ w → Least v (x ∷ xs) w
-    four true y q h d f = let g = ltb-true y x q in (rw (← f) (inr d.0), rw (← f) d.1, rw (← f) (λ c m k. ⊎_elim (λ a. omega arith) (λ a. d.2 c a k) m))
+    four true y q h d f = let g = ltb-true y x q in subst (Least v (x ∷ xs)) f (inr d.0, d.1, λ c m k. ⊎_elim (λ a. omega arith) (λ a. d.2 c a k) m)
     four false y q h d f =
-        let g = ltb-false y x q in (rw (← f) (inl refl), rw (← f) h, rw (← f) (λ c m k. ⊎_elim (λ a. omega arith) (λ a. let n = d.2 c a k in omega arith) m))
+        let g = ltb-false y x q in subst (Least v (x ∷ xs)) f (inl refl, h, λ c m k. ⊎_elim (λ a. omega arith) (λ a. let n = d.2 c a k in omega arith) m)
 
     three : (b : Bool) (y : ℕ) → leb v x ≡ b → Least v xs y → cond b (some (cond (ltb y x) y x)) (some y) ≡ some w → Least v (x ∷ xs) w
     three true y q d f = four (ltb y x) y refl (leb-true v x q) d (cc)
     three false y q d f =
         let k : y ≡ w = cc in
         let g = leb-false v x q in
-        (rw (← k) (inr d.0), rw (← k) d.1, rw (← k) (λ c m h. ⊎_elim (λ a. absurd (omega arith)) (λ a. d.2 c a h) m))
+        subst (Least v (x ∷ xs)) k (inr d.0, d.1, λ c m h. ⊎_elim (λ a. absurd (omega arith)) (λ a. d.2 c a h) m)
 
     go : (o : Option ℕ) → least_from v xs ≡ o → lesser v x o ≡ some w → ((u : ℕ) → least_from v xs ≡ some u → Least v xs u) → Least v (x ∷ xs) w
     go none q f ih = two (leb v x) refl q f

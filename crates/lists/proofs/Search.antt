@@ -1,5 +1,5 @@
 -- What a search finds is a member that passes, and where one passes it finds one. Assumes nothing.
-use mathlib.Core.Path.{◌≡◌, refl, sym, ap, ◌∙◌}
+use mathlib.Core.Path.{◌≡◌, refl, sym, ap, subst, ◌∙◌}
 use mathlib.Core.Logic.{inl, inr}
 use mathlib.Core.Bool.{Bool, true, false, cond}
 use mathlib.Core.Option.{Option, none, some}
@@ -159,7 +159,7 @@ module _ {A : Type 0} where
   best_in over (x ∷ xs) z e = go (best over xs) refl e (best_in over xs)
     where
       pin : (b : Bool) (y : A) → y ∈ xs → some (cond b y x) ≡ some z → z ∈ (x ∷ xs)
-      pin true y m q = let r : z ≡ y = cc in rw r (inr m)
+      pin true y m q = let r : y ≡ z = cc in inr (subst (λ (w : A). w ∈ xs) r m)
       pin false y m q = inl (cc)
 
       go : (o : Option A) → best over xs ≡ o → some (better over x o) ≡ some z → ((w : A) → best over xs ≡ some w → w ∈ xs) → z ∈ (x ∷ xs)
