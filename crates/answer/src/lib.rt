@@ -8,7 +8,7 @@ ghost use Rattle.answer.specs.Went.{in_stage, told_of};
 use flash::Ran;
 
 // The stage of the first step that was not made. Finish names its source sector; reclaim is one stage.
-#[derive(Drop)]
+#[derive(Clone, Copy)]
 pub enum Stage {
     Order,
     Finish(usize),
@@ -18,7 +18,7 @@ pub enum Stage {
 }
 
 // Done and Stopped are no refusals: they say how many steps were made.
-#[derive(Drop)]
+#[derive(Clone, Copy)]
 pub enum Answer {
     Done(u64),
     NotSectors,
@@ -31,7 +31,7 @@ pub enum Answer {
 }
 
 // What became of steps that have stages: all were made, and so many are still allowed; or none is, and this is the stage of the first that was not made.
-#[derive(Drop)]
+#[derive(Clone, Copy)]
 pub enum Went {
     Ended(u64),
     Short(Stage),

@@ -7,7 +7,7 @@ ghost use Rattle.entry.specs.Fields.{entry_crc, key_of, key_number, chunk_size, 
 use crc::CrcTable;
 
 // The sixteen bytes of a key as two numbers, first byte highest, so that keys are compared as numbers are.
-#[derive(Drop)]
+#[derive(Clone, Copy)]
 pub struct Key {
     pub high: u64,
     pub low: u64,

@@ -3,7 +3,7 @@ ghost use Rattle.std.specs.Prelude.{◌≡◌};
 ghost use Rattle.entry.specs.Kinds.{kind_of, known};
 
 // A whole number's kind holds its width in bytes.
-#[derive(Drop)]
+#[derive(Clone, Copy)]
 pub enum Kind {
     Unsigned(u8),
     Signed(u8),
@@ -14,6 +14,7 @@ pub enum Kind {
     Unknown,
 }
 
+#[tactic(auto, unfolding(crate::specs::Kinds::kind_of))]
 pub fn kind_of(code: u8) -> Kind
     ensures { result ≡ kind_of code }
 {

@@ -31,7 +31,7 @@ fn tally(a: u64, b: u64, c: u64, d: u64, flip: u64) -> u32
         + hits(d, flip, 0x0555_5555_5555_5555)
 }
 
-#[derive(Drop)]
+#[derive(Clone, Copy)]
 pub struct Totals {
     pub written: u8,
     pub erased: u8,

@@ -11,7 +11,7 @@ use layout::{ENTRIES_AT, ENTRY_BYTES, PAGE_ENTRIES, SECTOR_BYTES};
 use page::Reading;
 
 // By what two items are compared: all 32 bytes of the header, or namespace, chunk index and key.
-#[derive(Drop)]
+#[derive(Clone, Copy)]
 pub enum Alike {
     Header,
     Name,

@@ -19,7 +19,7 @@ use page::PageState;
 use table::{Page, Sought, Table};
 
 // What became of a round's steps, and the lists as it leaves them: these count only where all steps were made.
-#[derive(Drop)]
+#[derive(Clone, Copy)]
 pub struct Rounded {
     pub ran: Ran,
     pub table: Table,

@@ -9,7 +9,7 @@ ghost use Rattle.flash.specs.Did.{Did};
 use layout::SECTOR_BYTES;
 
 // What became of a list of steps. `Done` hands back what is left of the allowance, so that the next list goes on with it.
-#[derive(Drop)]
+#[derive(Clone, Copy)]
 pub enum Ran {
     Done(u64),
     Stopped,

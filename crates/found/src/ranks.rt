@@ -5,7 +5,7 @@ ghost use Rattle.found.specs.Ranks.{rank_number};
 use entry::Key;
 
 // What items are taken in order of: a version's namespace and start, or a group's namespace, and then the key.
-#[derive(Drop)]
+#[derive(Clone, Copy)]
 pub struct Rank {
     pub high: u32,
     pub key: Key,

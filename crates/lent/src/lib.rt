@@ -11,7 +11,7 @@ use page::PageRecord;
 pub const MOST_LENT: usize = 32;
 
 // The answer, and the records after the call: those that were lent, and those behind them.
-#[derive(Drop)]
+#[derive(Clone, Copy)]
 pub struct Lent {
     pub answer: Answer,
     pub records: [PageRecord; MOST_LENT],

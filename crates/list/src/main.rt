@@ -6,7 +6,7 @@ ghost use Rattle.std.specs.Prelude.{◌≤◌};
 use libc::{STDERR_FILENO, STDIN_FILENO, STDOUT_FILENO};
 
 // How many bytes the input has, or that reading failed.
-#[derive(Drop)]
+#[derive(Clone, Copy)]
 enum Size {
     Bytes(u64),
     Failed,

@@ -15,7 +15,7 @@ use flash::Ran;
 use table::{Page, Sought, Table};
 
 // What became of this stage's steps, and the lists as it leaves them.
-#[derive(Drop)]
+#[derive(Clone, Copy)]
 pub struct OrderRan {
     pub ran: Ran,
     pub table: Table,

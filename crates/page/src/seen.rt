@@ -7,7 +7,7 @@ use crate::state::PageState;
 use crc::CrcTable;
 
 // The numbers are 0 where the sector is free.
-#[derive(Drop)]
+#[derive(Clone, Copy)]
 pub struct Seen {
     pub state: PageState,
     pub sequence: u32,

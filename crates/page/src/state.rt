@@ -6,7 +6,7 @@ ghost use Rattle.page.specs.State.{all_ones, word_state, state_of, is_free};
 use crc::CrcTable;
 use layout::{ENTRY_BYTES, SECTOR_PLACES};
 
-#[derive(Drop)]
+#[derive(Clone, Copy)]
 pub enum PageState {
     Blank,
     Corrupt,

@@ -10,7 +10,7 @@ use entry::{Key, Kind};
 use layout::{ENTRIES_AT, ENTRY_BYTES, PAGE_ENTRIES};
 
 // An item as its header tells it: where it stands, and what the 32 bytes say. `data_bytes` is the eight data bytes as a number, lowest first.
-#[derive(Drop)]
+#[derive(Clone, Copy)]
 pub struct ItemHeader {
     pub entry: usize,
     pub namespace: u8,
@@ -21,7 +21,7 @@ pub struct ItemHeader {
     pub data_bytes: u64,
 }
 
-#[derive(Drop)]
+#[derive(Clone, Copy)]
 pub enum Reading {
     Item(ItemHeader),
     Nothing,

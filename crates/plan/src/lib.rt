@@ -16,7 +16,7 @@ use table::{Page, Sought, Table};
 const ALL_ENTRIES: u8 = 126;
 
 // It is refused; the source is erased, since all its entries are Erased; or its items are moved to the target, which gets the sequence.
-#[derive(Drop)]
+#[derive(Clone, Copy)]
 pub enum Plan {
     Refuse(Answer),
     Clear(usize),
@@ -24,7 +24,7 @@ pub enum Plan {
 }
 
 // The free sector to take.
-#[derive(Drop)]
+#[derive(Clone, Copy)]
 pub enum Target {
     Sector(usize),
     NoSector,

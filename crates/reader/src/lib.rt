@@ -8,7 +8,7 @@ ghost use Rattle.reader.specs.Reader.{read_from, new_reader, read_next, moved_re
 pub use reading::{Handed, Read, begins_at, result};
 use reading::{next_from, read_of};
 
-#[derive(Drop)]
+#[derive(Clone, Copy)]
 pub struct ItemReader<'a> {
     sector: &'a [u8],
     entry: usize,

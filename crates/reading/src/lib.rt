@@ -16,7 +16,7 @@ const MOST_UNREAD: u8 = 126;
 
 // What the reader hands out. `End(n)`: no item is left, and n entries were passed over unread since the reader began. `NotSector` is result 1: the lent
 // bytes are not 4,096.
-#[derive(Drop)]
+#[derive(Clone, Copy)]
 pub enum Handed {
     Item(ItemHeader),
     End(u8),
@@ -24,7 +24,7 @@ pub enum Handed {
 }
 
 // What stands at a place, the place behind it, and the entries passed over unread so far.
-#[derive(Drop)]
+#[derive(Clone, Copy)]
 pub struct Read {
     pub handed: Handed,
     pub next: usize,

@@ -18,7 +18,7 @@ use page::{PageRecord, PageState};
 pub use scanned::{Scanned, see_all};
 
 // The records of an image's sectors: `count` is 0 where a call stores none.
-#[derive(Drop)]
+#[derive(Clone, Copy)]
 pub struct Rows {
     pub rows: [PageRecord; MOST_SECTORS],
     pub count: usize,

@@ -8,7 +8,7 @@ use crc::CrcTable;
 use layout::{MOST_SECTORS, SECTOR_BYTES};
 use page::{PageState, Seen};
 
-#[derive(Drop)]
+#[derive(Clone, Copy)]
 pub struct Scanned {
     pub seen: [Seen; MOST_SECTORS],
     pub count: usize,

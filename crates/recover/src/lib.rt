@@ -17,7 +17,7 @@ use records::{Rows, Scanned};
 use table::Table;
 
 // The answer, and the rows to store: none where the call is refused or stopped.
-#[derive(Drop)]
+#[derive(Clone, Copy)]
 pub struct Recovered {
     pub answer: Answer,
     pub rows: Rows,

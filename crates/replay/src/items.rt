@@ -29,7 +29,7 @@ fn put_item(sector: &[u8], entry: usize, out: &mut [u8], at: usize)
 }
 
 // How many items the reader handed out, and the count that it said after them.
-#[derive(Drop)]
+#[derive(Clone, Copy)]
 struct Told {
     count: usize,
     unread: u8,

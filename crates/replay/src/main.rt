@@ -16,7 +16,7 @@ mod calls;
 mod items;
 mod recovery;
 
-ghost use Rattle.std.specs.Prelude.{◌≤◌};
+ghost use Rattle.std.specs.Prelude.{◌≤◌, length as list_length};
 
 use libc::{STDIN_FILENO, STDOUT_FILENO};
 
@@ -40,7 +40,7 @@ fn one_case(image: &mut [u8]) -> bool {
 }
 
 fn answer(op: u8, allowance: u64, lent: usize, image: &mut [u8], length: usize) -> bool
-    requires* { do ⌜ length ≤ (← ⟦image.len()⟧) ⌝ }
+    requires { length ≤ list_length image.old }
 {
     if op == 0 {
         return recovery::answer_recover(&mut image[..length], lent, allowance);

@@ -31,7 +31,7 @@ pub fn clear(slots: &mut [u16])
 }
 
 // Where a search for a name ends: the slot, and the place in it, which is 0 where the slot is free.
-#[derive(Drop)]
+#[derive(Clone, Copy)]
 pub struct Stop {
     slot: usize,
     place: usize,

@@ -15,14 +15,14 @@ use page::{PageState, Seen};
 use records::Scanned;
 
 // A page of the list: its sector, and what the scan saw of it.
-#[derive(Drop)]
+#[derive(Clone, Copy)]
 pub struct Page {
     pub sector: u8,
     pub seen: Seen,
 }
 
 // The page list and the free list of an image of at most 16 sectors.
-#[derive(Drop)]
+#[derive(Clone, Copy)]
 pub struct Table {
     pub pages: [Page; MOST_SECTORS],
     pub count: usize,
@@ -213,7 +213,7 @@ pub fn append_page(table: Table, p: Page) -> Table
 }
 
 // A page that is sought in the list.
-#[derive(Drop)]
+#[derive(Clone, Copy)]
 pub enum Sought {
     One(Page),
     Nothing,

@@ -10,7 +10,7 @@ use found::Rank;
 use layout::{ENTRY_BYTES, VERSION_CHUNKS};
 
 // The place of the newest index so far.
-#[derive(Drop)]
+#[derive(Clone, Copy)]
 pub enum Newest {
     At(usize),
     Nothing,

@@ -11,7 +11,7 @@ use layout::{ENTRIES_AT, ENTRY_BYTES, PAGE_ENTRIES};
 use page::{is_item, one_written};
 
 // What one walk of a sector gives: where the places end that it stored, and how many entries are unread.
-#[derive(Drop)]
+#[derive(Clone, Copy)]
 pub struct Walked {
     pub end: usize,
     pub unread: u8,

@@ -10,37 +10,37 @@ use lib.ListN.{length, drop}
 use Rattle.crc.proofs.run.Statement.{statement}
 use Rattle.crc.proofs.run.Tie as tie
 
-abbrev invariant-loop : tie.invariant-loop
-invariant-loop t from s n r₀ i₀ r i = (i ≤ length s) × (crc_from r (drop i s) ≡ crc_from from s)
+abbrev invariant-loop-i : tie.invariant-loop-i
+invariant-loop-i t from s n r₀ i₀ r i = (i ≤ length s) × (crc_from r (drop i s) ≡ crc_from from s)
 
-abbrev decreases-loop : tie.decreases-loop
-decreases-loop t from s n r₀ i₀ r i = length s - i
+abbrev decreases-loop-i : tie.decreases-loop-i
+decreases-loop-i t from s n r₀ i₀ r i = length s - i
 
-loop-holds : tie.Need-loop-init invariant-loop decreases-loop
+loop-holds : tie.Need-loop-i-init invariant-loop-i decreases-loop-i
 loop-holds c =
     let s = c.before.before.args.s.now in
-    (omega arith, rw c.words.ensures (words_first s (4 * (length s / 4)) c.before.before.args.from))
+    (omega arith, rw c.words-r.ensures (words_first s (4 * (length s / 4)) c.before.before.args.from))
 
-loop-again : tie.Need-loop-preserved invariant-loop decreases-loop
+loop-again : tie.Need-loop-i-preserved invariant-loop-i decreases-loop-i
 loop-again c =
     let l = c.before.before.before.before in
     let s = l.before.before.before.args.s.now in (
       omega arith,
-      rw (c.one_byte.ensures, c.before.wide.ensures.0) (sym (byte-turn s l.loop.i l.loop.r (omega arith)) ∙ l.loop.invariant.1),
+      rw (c.one_byte-r.ensures, c.before.wide.ensures.0) (sym (byte-turn s l.loop-i.i l.loop-i.r (omega arith)) ∙ l.loop-i.invariant.1),
     )
 
-returns : tie.Need-returns invariant-loop decreases-loop
+returns : tie.Need-returns invariant-loop-i decreases-loop-i
 unfolding crc_from
 returns c =
     let s = c.before.before.before.before.args.s.now in
-    ap (crc_from c.before.loop.r) (sym (drop_of_length-le s c.loop-test.false)) ∙ c.before.loop.invariant.1
+    ap (crc_from c.before.loop-i.r) (sym (drop_of_length-le s c.loop-i-test.false)) ∙ c.before.loop-i.invariant.1
 
 pub run_spec : {M : Type 1} → statement M
 run_spec =
     tie.close
     (tie.spec
-    invariant-loop
-    decreases-loop
+    invariant-loop-i
+    decreases-loop-i
     (λ c κs. search rules)
     (λ c. search rules)
     loop-holds

@@ -7,10 +7,10 @@ use borrow.Author.Rules.{rules}
 use Rattle.flash.proofs.erase_sector.Statement.{statement}
 use Rattle.flash.proofs.erase_sector.Tie as tie
 
-returns : tie.Need-returns
-returns c = did-zero _ _ _ _ c.if1.true
+returns : tie.Need-returns-then-left-eq0
+returns c = did-zero _ _ _ _ c.if-left-eq0.true
 
-returns-2 : tie.Need-returns-2
+returns-2 : tie.Need-returns
 unfolding apply
 returns-2 c = did_one _ _ _ _ (omega arith) (lent-erase _ _ _ c.before.before.fill.ensures)
 

@@ -11,35 +11,35 @@ use borrow.Author.Rules.{rules}
 use Rattle.flash.proofs.fill.Statement.{statement}
 use Rattle.flash.proofs.fill.Tie as tie
 
-abbrev invariant-loop : tie.invariant-loop
-invariant-loop part₀ i₀ part i = (i ≤ length part₀) × (length part ≡ length part₀) × (part ≡ replicate i 0xFF ++ drop i part₀)
+abbrev invariant-loop-i : tie.invariant-loop-i
+invariant-loop-i part₀ i₀ part i = (i ≤ length part₀) × (length part ≡ length part₀) × (part ≡ replicate i 0xFF ++ drop i part₀)
 
-abbrev decreases-loop : tie.decreases-loop
-decreases-loop part₀ i₀ part i = length part₀ - i
+abbrev decreases-loop-i : tie.decreases-loop-i
+decreases-loop-i part₀ i₀ part i = length part₀ - i
 
-loop-holds : tie.Need-loop-init invariant-loop decreases-loop
+loop-holds : tie.Need-loop-i-init invariant-loop-i decreases-loop-i
 loop-holds c = (search rules, refl, refl)
 
-loop-again : tie.Need-loop-preserved invariant-loop decreases-loop
+loop-again : tie.Need-loop-i-preserved invariant-loop-i decreases-loop-i
 loop-again c =
     let l = c.before in
     let d = l.before.args.part.now in
-    (omega arith, simp length-set (omega arith), rw l.loop.invariant.2 (fill_more l.loop.i 0xFF d (omega arith)))
+    (omega arith, simp length-set (omega arith), rw l.loop-i.invariant.2 (fill_more l.loop-i.i 0xFF d (omega arith)))
 
-returns : tie.Need-returns invariant-loop decreases-loop
+returns : tie.Need-returns invariant-loop-i decreases-loop-i
 unfolding blank
 returns c =
     let l = c.before in
     let d = l.before.args.part.now in
-    let q : l.loop.i ≡ length d = omega arith in
-    l.loop.invariant.2 ∙ rw (q, drop-length d, append-nil)
+    let q : l.loop-i.i ≡ length d = omega arith in
+    l.loop-i.invariant.2 ∙ rw (q, drop-length d, append-nil)
 
 pub fill_spec : {M : Type 1} → statement M
 fill_spec =
     tie.close
     (tie.spec
-    invariant-loop
-    decreases-loop
+    invariant-loop-i
+    decreases-loop-i
     loop-holds
     (λ c. search rules)
     (λ c. search rules)

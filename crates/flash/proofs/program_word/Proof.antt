@@ -8,28 +8,28 @@ use borrow.Author.Rules.{rules}
 use Rattle.flash.proofs.program_word.Statement.{statement}
 use Rattle.flash.proofs.program_word.Tie as tie
 
-returns : tie.Need-returns
-returns c = did-zero _ _ _ _ c.if1.true
+returns : tie.Need-returns-then-left-eq0
+returns c = did-zero _ _ _ _ c.if-left-eq0.true
 
-slice-read-image-2 : tie.Need-slice-read-image-2
+slice-read-image-2 : tie.Need-bounds-image-at-3
 slice-read-image-2 c = simp length-set (omega arith)
 
-slice-write-image-2 : tie.Need-slice-write-image-2
+slice-write-image-2 : tie.Need-bounds-image-at-4
 slice-write-image-2 c = simp length-set (omega arith)
 
-slice-read-image-3 : tie.Need-slice-read-image-3
+slice-read-image-3 : tie.Need-bounds-image-at-5
 slice-read-image-3 c = simp length-set (omega arith)
 
-slice-write-image-3 : tie.Need-slice-write-image-3
+slice-write-image-3 : tie.Need-bounds-image-at-6
 slice-write-image-3 c = simp length-set (omega arith)
 
-slice-read-image-4 : tie.Need-slice-read-image-4
+slice-read-image-4 : tie.Need-bounds-image-at-7
 slice-read-image-4 c = simp length-set (omega arith)
 
-slice-write-image-4 : tie.Need-slice-write-image-4
+slice-write-image-4 : tie.Need-bounds-image-at-8
 slice-write-image-4 c = simp length-set (omega arith)
 
-returns-2 : tie.Need-returns-2
+returns-2 : tie.Need-returns
 unfolding apply and_word put and8
 returns-2 c = did_one _ _ _ _ (omega arith) refl
 

@@ -11,40 +11,40 @@ use borrow.Author.Rules.{rules}
 use Rattle.flash.proofs.program_words.Statement.{statement}
 use Rattle.flash.proofs.program_words.Tie as tie
 
-abbrev invariant-loop : tie.invariant-loop
-invariant-loop part₀ at e from to allowed left₀ k₀ part left k =
+abbrev invariant-loop-k : tie.invariant-loop-k
+invariant-loop-k part₀ at e from to allowed left₀ k₀ part left k =
     (k ≤ to) × (length part ≡ length part₀) × Goes (words at e from (to - from)) allowed part₀ (words at e k (to - k)) left part
 
-abbrev decreases-loop : tie.decreases-loop
-decreases-loop part₀ at e from to allowed left₀ k₀ part left k = to - k
+abbrev decreases-loop-k : tie.decreases-loop-k
+decreases-loop-k part₀ at e from to allowed left₀ k₀ part left k = to - k
 
-loop-holds : tie.Need-loop-init invariant-loop decreases-loop
+loop-holds : tie.Need-loop-k-init invariant-loop-k decreases-loop-k
 loop-holds c = (search rules, refl, goes_start _ _ _)
 
-returns : tie.Need-returns invariant-loop decreases-loop
+returns : tie.Need-returns-in_default invariant-loop-k decreases-loop-k
 returns c =
     let p = c.before.before.before.before in
     let l = p.before.before.before.before.before.before.before in
-    goes-stop _ l.loop.invariant.2 (words_more _ _ _ _ (omega arith)) p.program-word.ensures c.enum_told.given.1
+    goes-stop _ l.loop-k.invariant.2 (words_more _ _ _ _ (omega arith)) p.program_word-r.ensures c.enum_told-1.given.1
 
-loop-again : tie.Need-loop-preserved invariant-loop decreases-loop
+loop-again : tie.Need-loop-k-preserved invariant-loop-k decreases-loop-k
 loop-again c =
     let p = c.before.before.before.before.before in
     let l = p.before.before.before.before.before.before.before in (
       search rules,
       search rules,
-      goes_on l.loop.invariant.2 (words_more _ _ _ _ (omega arith)) p.program-word.ensures c.before.r.given.1,
+      goes_on l.loop-k.invariant.2 (words_more _ _ _ _ (omega arith)) p.program_word-r.ensures c.before.r-1.given.1,
     )
 
-returns-2 : tie.Need-returns-2 invariant-loop decreases-loop
-returns-2 c = goes_end c.before.loop.invariant.2 (words_end _ _ _ _ (omega arith))
+returns-2 : tie.Need-returns invariant-loop-k decreases-loop-k
+returns-2 c = goes_end c.before.loop-k.invariant.2 (words_end _ _ _ _ (omega arith))
 
 pub program_words_spec : {M : Type 1} → statement M
 program_words_spec =
     tie.close
     (tie.spec
-    invariant-loop
-    decreases-loop
+    invariant-loop-k
+    decreases-loop-k
     loop-holds
     (λ c. search rules)
     (λ c. search rules)

@@ -8,17 +8,17 @@ use Rattle.entry.proofs.Keys.{ltb_agree, two-lt}
 use Rattle.entry.proofs.fields.key_less.Statement.{statement}
 use Rattle.entry.proofs.fields.key_less.Tie as tie
 
-returns : tie.Need-returns
+returns : tie.Need-returns-then-a-b
 returns c =
     let x = c.before.before.before.args in
-    sym (lt-ltb (key_number x.a) (key_number x.b) (two-lt 64 x.b.low c.if1.true (omega arith)))
+    sym (lt-ltb (key_number x.a) (key_number x.b) (two-lt 64 x.b.low c.if-a-b.true (omega arith)))
 
-returns-2 : tie.Need-returns-2
+returns-2 : tie.Need-returns-then-b-a
 returns-2 c =
     let x = c.before.before.before.before.before.before.args in
-    sym (le-ltb (key_number x.a) (key_number x.b) (le_of_lt (two-lt 64 x.a.low c.if2.true (omega arith))))
+    sym (le-ltb (key_number x.a) (key_number x.b) (le_of_lt (two-lt 64 x.a.low c.if-b-a.true (omega arith))))
 
-returns-3 : tie.Need-returns-3
+returns-3 : tie.Need-returns-then-a-b
 returns-3 c =
     let entered = c.before.before.before.before.before.before.before.before in
     let x = entered.args in

@@ -8,16 +8,16 @@ use Rattle.entry.proofs.Keys.{eqb_agree, two-high, two-low}
 use Rattle.entry.proofs.fields.key_same.Statement.{statement}
 use Rattle.entry.proofs.fields.key_same.Tie as tie
 
-returns : tie.Need-returns
+returns : tie.Need-returns-then-a-b
 returns c =
     let x = c.before.before.before.before.before.args in
-    eqb_agree x.a.low x.b.low (key_number x.a) (key_number x.b) (λ q. ap₂ (λ (h l : ℕ). h * 2 ^ 64 + l) c.before.before.if1.true q)
+    eqb_agree x.a.low x.b.low (key_number x.a) (key_number x.b) (λ q. ap₂ (λ (h l : ℕ). h * 2 ^ 64 + l) c.before.before.if-a-b.true q)
     (λ q. two-low 64 x.a.high x.b.high {l = x.a.low} {l' = x.b.low} (omega arith) (omega arith) q)
 
-returns-2 : tie.Need-returns-2
+returns-2 : tie.Need-returns-else-a-b
 returns-2 c =
     let x = c.before.before.before.args in
-    sym (ne_eqb (key_number x.a) (key_number x.b) (λ q. c.if1.false (two-high 64 {l = x.a.low} {l' = x.b.low} (omega arith) (omega arith) q)))
+    sym (ne_eqb (key_number x.a) (key_number x.b) (λ q. c.if-a-b.false (two-high 64 {l = x.a.low} {l' = x.b.low} (omega arith) (omega arith) q)))
 
 pub key_same_spec : {M : Type 1} → statement M
 key_same_spec = tie.close (tie.spec returns returns-2)

@@ -27,51 +27,51 @@ module _ (s : List ℕ) (small : (i : ℕ) → get_or s i 0 < 256) (a b c d : �
       let m = count-le (3 - g) (state_at s) 126 in
       (n, omega arith)
 
-cast-written : tie.Need-overflow-cast-t10
+cast-written : tie.Need-overflow_cast-result
 unfolding pairs_below
 cast-written c =
     let w = c.before.before.before.before in
     let k = w.before.before.before.before in
     omega (
       arith,
-      (counted k.before.args.s.now (λ i. omega (arith, k.shared-slice-known.given i)) _ _ _ _ w.before.before.before.le64.ensures w.before.before.le642.ensures
-          w.before.le643.ensures w.le644.ensures 1 (lit< tt) _ c.before.before.before.tally.ensures
+      (counted k.before.args.s.now (λ i. omega (arith, k.shared_slice_known-1.given i)) _ _ _ _ w.before.before.before.le64-a.ensures w.before.before.le64-b.ensures
+          w.before.le64-c.ensures w.le64-d.ensures 1 (lit< tt) _ c.before.before.before.tally-written.ensures
           ).1,
     )
 
-cast-erased : tie.Need-overflow-cast-t11
+cast-erased : tie.Need-overflow_cast-result-2
 unfolding pairs_below
 cast-erased c =
     let w = c.before.before.before.before in
     let k = w.before.before.before.before in
     omega (
       arith,
-      (counted k.before.args.s.now (λ i. omega (arith, k.shared-slice-known.given i)) _ _ _ _ w.before.before.before.le64.ensures w.before.before.le642.ensures
-          w.before.le643.ensures w.le644.ensures 3 (lit< tt) _ c.before.before.tally2.ensures
+      (counted k.before.args.s.now (λ i. omega (arith, k.shared_slice_known-1.given i)) _ _ _ _ w.before.before.before.le64-a.ensures w.before.before.le64-b.ensures
+          w.before.le64-c.ensures w.le64-d.ensures 3 (lit< tt) _ c.before.before.tally-erased.ensures
           ).1,
     )
 
-cast-empty : tie.Need-overflow-cast-t12
+cast-empty : tie.Need-overflow_cast-result-3
 unfolding pairs_below
 cast-empty c =
     let w = c.before.before.before.before in
     let k = w.before.before.before.before in
     omega (
       arith,
-      (counted k.before.args.s.now (λ i. omega (arith, k.shared-slice-known.given i)) _ _ _ _ w.before.before.before.le64.ensures w.before.before.le642.ensures
-          w.before.le643.ensures w.le644.ensures 0 (lit< tt) _ c.before.tally3.ensures
+      (counted k.before.args.s.now (λ i. omega (arith, k.shared_slice_known-1.given i)) _ _ _ _ w.before.before.before.le64-a.ensures w.before.before.le64-b.ensures
+          w.before.le64-c.ensures w.le64-d.ensures 0 (lit< tt) _ c.before.tally-empty.ensures
           ).1,
     )
 
-cast-illegal : tie.Need-overflow-cast-t13
+cast-illegal : tie.Need-overflow_cast-result-4
 unfolding pairs_below
 cast-illegal c =
     let w = c.before.before.before.before in
     let k = w.before.before.before.before in
     omega (
       arith,
-      (counted k.before.args.s.now (λ i. omega (arith, k.shared-slice-known.given i)) _ _ _ _ w.before.before.before.le64.ensures w.before.before.le642.ensures
-          w.before.le643.ensures w.le644.ensures 2 (lit< tt) _ c.tally4.ensures
+      (counted k.before.args.s.now (λ i. omega (arith, k.shared_slice_known-1.given i)) _ _ _ _ w.before.before.before.le64-a.ensures w.before.before.le64-b.ensures
+          w.before.le64-c.ensures w.le64-d.ensures 2 (lit< tt) _ c.tally-illegal.ensures
           ).1,
     )
 
@@ -81,13 +81,13 @@ returns c =
     let w = c.before.before.before.before in
     let k = w.before.before.before.before in
     let all =
-    counted k.before.args.s.now (λ i. omega (arith, k.shared-slice-known.given i)) _ _ _ _ w.before.before.before.le64.ensures w.before.before.le642.ensures
-    w.before.le643.ensures w.le644.ensures in
+    counted k.before.args.s.now (λ i. omega (arith, k.shared_slice_known-1.given i)) _ _ _ _ w.before.before.before.le64-a.ensures w.before.before.le64-b.ensures
+    w.before.le64-c.ensures w.le64-d.ensures in
     rw (
-      (all 1 (lit< tt) _ c.before.before.before.tally.ensures).0,
-      (all 3 (lit< tt) _ c.before.before.tally2.ensures).0,
-      (all 0 (lit< tt) _ c.before.tally3.ensures).0,
-      (all 2 (lit< tt) _ c.tally4.ensures).0,
+      (all 1 (lit< tt) _ c.before.before.before.tally-written.ensures).0,
+      (all 3 (lit< tt) _ c.before.before.tally-erased.ensures).0,
+      (all 0 (lit< tt) _ c.before.tally-empty.ensures).0,
+      (all 2 (lit< tt) _ c.tally-illegal.ensures).0,
     )
 
 pub totals_of_spec : {M : Type 1} → statement M
