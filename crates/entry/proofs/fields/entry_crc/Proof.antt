@@ -8,7 +8,7 @@ use Rattle.entry.proofs.fields.entry_crc.Tie as tie
 returns : tie.Need-returns
 returns c =
     let k = c.before.before.before.before in
-    rw (c.finish.ensures, c.before.words-r.ensures, c.before.before.words-r.ensures) (sym (two_pieces k.args.s.now k.args.at k.requires.1))
+    rw (c.finish.ensures, c.before.words.ensures, c.before.before.words-r.ensures) (sym (two_pieces k.args.s.now k.args.at k.requires.1))
 
 pub entry_crc_spec : {M : Type 1} → statement M
 entry_crc_spec =

@@ -18,7 +18,7 @@ returns-2 c =
     let x = c.before.before.before.before.before.before.args in
     sym (le-ltb (key_number x.a) (key_number x.b) (le_of_lt (two-lt 64 x.a.low c.if-b-a.true (omega arith))))
 
-returns-3 : tie.Need-returns-then-a-b
+returns-3 : tie.Need-returns
 returns-3 c =
     let entered = c.before.before.before.before.before.before.before.before in
     let x = entered.args in
