@@ -8,28 +8,12 @@ use Rattle.crc.specs.Crc.{crc_bits}
 use Rattle.crc.proofs.Places.{at_place}
 use Rattle.crc.proofs.Slicing.{eight}
 use borrow.Author.Rules.{rules}
-use Rattle.crc.proofs.one_byte.Statement.{statement}
-use Rattle.crc.proofs.one_byte.Tie as tie
+use Rattle.crc.proofs.one_byte.Goals as goal
 
-returns : tie.Need-returns
+pub returns : goal.returns
 returns c =
-    let k = c.before.before in
-    let x = k.args.x in
-    let read : (j n i : ℕ) → n < 64 → i ≡ n + 64 * j → i < 324 → get_or k.args.t.now i 0 ≡ crc_bits (32 - 6 * j) n = at_place k.args.t.now k.requires in
+    let x = c.args.x in
+    let read : (j n i : ℕ) → n < 64 → i ≡ n + 64 * j → i < 324 → get_or c.args.t.now i 0 ≡ crc_bits (32 - 6 * j) n = at_place c.args.t.now c.requires in
     ap₂ bit_xor (read 4 (x % 64) (x % 64 + 256) (omega arith) (omega arith) (omega arith))
     (ap (bit_xor (x / 64 / 4)) (read 5 (x / 64 % 4) (x / 64 % 4 + 320) (omega arith) (omega arith) (omega arith)))
     ∙ sym (eight x)
-
-pub one_byte_spec : {M : Type 1} → statement M
-one_byte_spec =
-    tie.close
-    (tie.spec
-    (λ c. search rules)
-    (λ c. search rules)
-    (λ c. search rules)
-    (λ c. search rules)
-    (λ c. search rules)
-    (λ c. search rules)
-    (λ c. search rules)
-    (λ c. search rules)
-    returns)
