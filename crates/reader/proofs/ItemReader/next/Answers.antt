@@ -38,7 +38,6 @@ use denote.Struct.Laws as LL
 use denote.Struct.Rest.{all_own, field_own, rest, own_open, own_out, own_put}
 use denote.Struct.Steps.{spelt}
 use denote.Struct.Values.{Values}
-use denote.Triple.Statement.{Contract, Triple}
 use denote.Triple.Call.{calls_at}
 use denote.Triple.Entry.{Vals, on_entry}
 use denote.Triple.Spec.{Meets, triple_of}
@@ -60,8 +59,7 @@ use Rattle.reading.proofs.next_from.Symbol.{name as #reading·next-from}
 use Rattle.reading.proofs.next_from.Met as read-thm
 use Rattle.reader.specs.contracts.ItemReader.next.Key.{name as #reader·next}
 use Rattle.reader.specs.contracts.ItemReader.next as next
-use Rattle.reader.proofs.ItemReader.next.Statement as stated
-use Rattle.reader.proofs.ItemReader.next.Code as code
+use Rattle.reader.proofs.ItemReader.next.Goals as goal
 
 -- `ItemReader<'a>`, as the referent's place in the signature
 abbrev behind : Slot 2
@@ -212,11 +210,3 @@ module _ {M : Type 1} {𝓤 : Ura M} (𝓛 : Logic 𝓤) (mem : Memory → SProp
 
   next-meets : Meets 𝓛 next.signature (WpFn 𝓤 H 𝓣.C 𝓣.Λ code.function) (next.spec 𝓛 mem run)
   next-meets = walk_Meets 𝓛 next.ended stayed (Goes-ref 𝓛 2 0 tt behind, tt) (next.clauses 𝓛 mem run) (WpFn 𝓤 H 𝓣.C 𝓣.Λ code.function) (WpFn-mono 𝓤 H 𝓛.laws 𝓣 code.function) next_walks
-
-pub next_spec : {M : Type 1} → stated.statement M
-unfolding code.routine tables_of
-next_spec 𝓤 𝓛 𝓜 𝓡 =
-    entered 𝓤 𝓛.H (triple_of 𝓛 next.signature (next.spec 𝓛 𝓜.mem 𝓡.run))
-    (tables 𝓤 𝓛.H 𝓜 𝓡 code.env).C (tables 𝓤 𝓛.H 𝓜 𝓡 code.env).Λ #reader·next code.function (code.unfolded 𝓤 𝓛.H 𝓜 𝓡)
-    (next-meets 𝓛 𝓜.mem 𝓡.run (tables_of 𝓤 𝓛.H 𝓜 (tables 𝓤 𝓛.H 𝓜 𝓡 code.env))
-    (cited 𝓤 𝓛.H (NextFrom 𝓛 𝓜.mem 𝓡.run) 𝓜 𝓡 code.env #reading·next-from read-def.routine code.calls-reading::next-from (read-thm.met 𝓤 𝓛 𝓜 𝓡)))

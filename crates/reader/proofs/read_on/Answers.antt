@@ -39,7 +39,6 @@ use denote.Steps.{owned, peeks, heard, nothing}
 use denote.Struct.Rest.{own_shut}
 use denote.Enum.Laws as EL
 use denote.Struct.Laws as LL
-use denote.Triple.Statement.{Contract, Triple}
 use denote.Triple.Call.{calls_at}
 use denote.Triple.Entry.{on_entry}
 use denote.Triple.Spec.{Meets, triple_of}
@@ -69,8 +68,7 @@ use Rattle.reading.proofs.read_of.Symbol.{name as #reading·read-of}
 use Rattle.reading.proofs.read_of.Met as read-thm
 use Rattle.reader.specs.contracts.read_on.Key.{name as #reader·read-on}
 use Rattle.reader.specs.contracts.read_on as f
-use Rattle.reader.proofs.read_on.Statement as stated
-use Rattle.reader.proofs.read_on.Code as code
+use Rattle.reader.proofs.read_on.Goals as goal
 
 abbrev stayed : Stays (f.ended).signature.params (f.ended).kept
 stayed = (stay_none_slice (0 ∷ []) tt (plain (λ _. u8)) yes, (stay_none (λ _. usize) yes, (stay_none (λ _. u8) yes, tt)))
@@ -233,12 +231,3 @@ module _ {M : Type 1} {𝓤 : Ura M} (𝓛 : Logic 𝓤) (mem : Memory → SProp
   read_on_meets : Meets 𝓛 f.signature (WpFn 𝓤 H 𝓣.C 𝓣.Λ code.function) (f.spec 𝓛 mem run)
   read_on_meets =
       walk_Meets 𝓛 f.ended stayed (Goes-none_slice 𝓛 1 (0 ∷ []) tt (plain (λ _. u8)) yes, (Goes-none 𝓛 1 (λ _. usize) yes (λ κs x f. refl), (Goes-none 𝓛 1 (λ _. u8) yes (λ κs x f. refl), tt))) (f.clauses 𝓛 mem run) (WpFn 𝓤 H 𝓣.C 𝓣.Λ code.function) (WpFn-mono 𝓤 H 𝓛.laws 𝓣 code.function) read_on_walks
-
-pub read_on_spec : {M : Type 1} → stated.statement M
-unfolding code.routine tables_of
-read_on_spec 𝓤 𝓛 𝓜 𝓡 =
-    entered 𝓤 𝓛.H (triple_of 𝓛 f.signature (f.spec 𝓛 𝓜.mem 𝓡.run))
-    (tables 𝓤 𝓛.H 𝓜 𝓡 code.env).C (tables 𝓤 𝓛.H 𝓜 𝓡 code.env).Λ #reader·read-on code.function (code.unfolded 𝓤 𝓛.H 𝓜 𝓡)
-    (read_on_meets 𝓛 𝓜.mem 𝓡.run (tables_of 𝓤 𝓛.H 𝓜 (tables 𝓤 𝓛.H 𝓜 𝓡 code.env))
-    (cited 𝓤 𝓛.H (Next 𝓛 𝓜.mem 𝓡.run) 𝓜 𝓡 code.env #reader·next next-def.routine code.calls-reader::ItemReader::next (next-thm.met 𝓤 𝓛 𝓜 𝓡))
-    (cited 𝓤 𝓛.H (ReadOf 𝓛 𝓜.mem 𝓡.run) 𝓜 𝓡 code.env #reading·read-of read-def.routine code.calls-reading::read-of (read-thm.met 𝓤 𝓛 𝓜 𝓡)))

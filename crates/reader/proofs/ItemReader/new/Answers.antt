@@ -31,7 +31,6 @@ use denote.Signature.{plain, named_lft}
 use denote.Slice.{slice_val, ShrSlice, shr_slice_vals, shr_slice_Tells, shr_slice_Lawful, shr_slice_copy}
 use denote.Steps.{only, nothing, owned, peeks, heard}
 use denote.Struct.Rest.{own_shut}
-use denote.Triple.Statement.{Contract, Triple}
 use denote.Triple.Call.{calls_at}
 use denote.Triple.Entry.{on_entry}
 use denote.Triple.Spec.{Meets, triple_of}
@@ -50,8 +49,7 @@ use Rattle.reading.proofs.begins_at.Symbol.{name as #reading·begins-at}
 use Rattle.reading.proofs.begins_at.Met as begins-thm
 use Rattle.reader.specs.contracts.ItemReader.new.Key.{name as #reader·new}
 use Rattle.reader.specs.contracts.ItemReader.new as new
-use Rattle.reader.proofs.ItemReader.new.Statement as stated
-use Rattle.reader.proofs.ItemReader.new.Code as code
+use Rattle.reader.proofs.ItemReader.new.Goals as goal
 
 abbrev stayed : Stays (new.ended).signature.params (new.ended).kept
 stayed = (stay_none_slice (0 ∷ []) tt (plain (λ _. u8)) yes, tt)
@@ -138,11 +136,3 @@ module _ {M : Type 1} {𝓤 : Ura M} (𝓛 : Logic 𝓤) (mem : Memory → SProp
 
   new_meets : Meets 𝓛 new.signature (WpFn 𝓤 H 𝓣.C 𝓣.Λ code.function) (new.spec 𝓛 mem run)
   new_meets = walk_Meets 𝓛 new.ended stayed (Goes-none_slice 𝓛 1 (0 ∷ []) tt (plain (λ _. u8)) yes, tt) (new.clauses 𝓛 mem run) (WpFn 𝓤 H 𝓣.C 𝓣.Λ code.function) (WpFn-mono 𝓤 H 𝓛.laws 𝓣 code.function) new_walks
-
-pub new_spec : {M : Type 1} → stated.statement M
-unfolding code.routine tables_of
-new_spec 𝓤 𝓛 𝓜 𝓡 =
-    entered 𝓤 𝓛.H (triple_of 𝓛 new.signature (new.spec 𝓛 𝓜.mem 𝓡.run))
-    (tables 𝓤 𝓛.H 𝓜 𝓡 code.env).C (tables 𝓤 𝓛.H 𝓜 𝓡 code.env).Λ #reader·new code.function (code.unfolded 𝓤 𝓛.H 𝓜 𝓡)
-    (new_meets 𝓛 𝓜.mem 𝓡.run (tables_of 𝓤 𝓛.H 𝓜 (tables 𝓤 𝓛.H 𝓜 𝓡 code.env))
-    (cited 𝓤 𝓛.H (BeginsAt 𝓛 𝓜.mem 𝓡.run) 𝓜 𝓡 code.env #reading·begins-at begins-def.routine code.calls-reading::begins-at (begins-thm.met 𝓤 𝓛 𝓜 𝓡)))
