@@ -3,20 +3,16 @@ use Rattle.table.proofs.Out.{front_rest}
 use mathlib.Core.Path.{refl, sym}
 use native.Mathlib.Omega.{arith}
 use borrow.Author.Rules.{rules}
-use Rattle.table.proofs.drop_free.Statement.{statement}
-use Rattle.table.proofs.drop_free.Tie as tie
+use Rattle.table.proofs.drop_free.Goals as goal
 
-returns : tie.Need-returns
+pub returns : goal.returns
 returns c =
-    let t = c.before.args.table in (
+    let t = c.args.table in (
       record {
         sized = record { list = omega arith; free = omega arith; sixteen = omega arith; sixteen_free = omega arith };
         list = refl;
-        free = sym (front_rest t.free t.free_count 0 c.before.requires.0.free (λ e. omega arith));
+        free = sym (front_rest t.free t.free_count 0 c.requires.0.free (λ e. omega arith));
       },
       refl,
       omega arith,
     )
-
-pub drop_free_spec : {M : Type 1} → statement M
-drop_free_spec = tie.close (tie.spec (λ c. search rules) returns)

@@ -5,10 +5,9 @@ use native.Mathlib.Numerals.{add-one}
 use lib.ListN.{length-set}
 use lib.Seq.{take-suc-set}
 use borrow.Author.Rules.{rules}
-use Rattle.table.proofs.append_page.Statement.{statement}
-use Rattle.table.proofs.append_page.Tie as tie
+use Rattle.table.proofs.append_page.Goals as goal
 
-returns : tie.Need-returns
+pub returns : goal.returns
 returns c =
     let t = c.args.table in
     record {
@@ -16,6 +15,3 @@ returns c =
       list = rw (add-one t.count) (take-suc-set t.pages t.count c.args.p (omega arith));
       free = refl;
     }
-
-pub append_page_spec : {M : Type 1} → statement M
-append_page_spec = tie.close (tie.spec (λ c. search rules) (λ c. search rules) (λ c. search rules) returns)

@@ -5,10 +5,9 @@ use lib.Seq.{take-suc-set}
 use mathlib.Core.Path.{refl}
 use native.Mathlib.Omega.{arith}
 use borrow.Author.Rules.{rules}
-use Rattle.table.proofs.join_free.Statement.{statement}
-use Rattle.table.proofs.join_free.Tie as tie
+use Rattle.table.proofs.join_free.Goals as goal
 
-returns : tie.Need-returns
+pub returns : goal.returns
 returns c =
     let t = c.args.table in (
       record {
@@ -18,6 +17,3 @@ returns c =
       },
       refl,
     )
-
-pub join_free_spec : {M : Type 1} → statement M
-join_free_spec = tie.close (tie.spec (λ c. search rules) (λ c. search rules) returns)
