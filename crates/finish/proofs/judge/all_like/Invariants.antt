@@ -6,7 +6,7 @@ use Rattle.page.specs.Walk.{is_item, walk, reading_of}
 use Rattle.page.proofs.Walking.{item_span, reading_none, reading_item, reading_span}
 use borrow.Author.Tests.{not-true, not-false}
 use Rattle.finish.specs.Alike.{some_like, all_like}
-use Rattle.finish.proofs.Alike.{lent-entry, all_not, all_on, all_skip, all_end}
+use Rattle.finish.proofs.Likeness.{lent-entry, all_not, all_on, all_skip, all_end}
 use mathlib.Core.Path.{◌≡◌, refl, sym, ap, ◌∙◌}
 use Prim.Native.Nat.{ℕ, ◌+◌, ◌-◌, ◌≤◌}
 use native.Mathlib.Omega.{arith}

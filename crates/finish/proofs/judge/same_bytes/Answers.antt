@@ -1,7 +1,7 @@
 -- `finish::same_bytes` meets its contract: what is passed is the same, so the rest decides. Assumes nothing.
 use lib.ListN.{drop_of_length-le}
 use Rattle.finish.specs.Finish.{same_bytes}
-use Rattle.finish.proofs.Alike.{bytes_same, bytes_differ}
+use Rattle.finish.proofs.Likeness.{bytes_same, bytes_differ}
 use mathlib.Core.Path.{◌≡◌, refl, sym, ◌∙◌}
 use Prim.Native.Nat.{◌-◌, ◌≤◌}
 use native.Mathlib.Omega.{arith}

@@ -4,7 +4,7 @@ use Rattle.page.specs.declared.walk.Reading.TheVariants.{Item, Nothing}
 use Rattle.page.specs.Walk.{is_item, walk, reading_of}
 use Rattle.page.proofs.Walking.{item_span, reading_none, reading_item, reading_span}
 use Rattle.finish.specs.Alike.{alike_by, some_like}
-use Rattle.finish.proofs.Alike.{lent-entry, some_here, some_on, some_skip, some_end}
+use Rattle.finish.proofs.Likeness.{lent-entry, some_here, some_on, some_skip, some_end}
 use mathlib.Core.Path.{◌≡◌, refl, sym, ap, ◌∙◌}
 use Prim.Native.Nat.{◌+◌, ◌-◌, ◌≤◌}
 use native.Mathlib.Omega.{arith}

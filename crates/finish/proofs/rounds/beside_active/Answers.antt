@@ -5,7 +5,7 @@ use Rattle.table.specs.Table.{active_page, items_in, listed}
 use Rattle.table.proofs.Seeking.{first_member}
 use Rattle.table.proofs.Places.{page-fits}
 use Rattle.finish.specs.Finish.{copy_of, round_with}
-use Rattle.finish.proofs.Alike.{copy_is}
+use Rattle.finish.proofs.Likeness.{copy_is}
 use mathlib.Core.Path.{◌≡◌, refl, sym, ◌∙◌}
 use borrow.Author.Rules.{rules}
 use Rattle.finish.proofs.rounds.beside_active.Goals as goal

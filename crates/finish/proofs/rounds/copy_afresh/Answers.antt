@@ -65,7 +65,7 @@ moved : (c : After-move_page-ran)
     →
     let a = c.args in
     Did (moving a.x.sector (get_or a.table.free (a.table.free_count - 1) 0) (next_sequence a.x (listed a.table)) (items_in a.x.sector a.image.now) a.image.now)
-    a.allowance a.image.now c.move_page-ran.new.1.0 c.move_page-ran.result
+    a.allowance a.image.now c.move_page-ran.new.image c.move_page-ran.result
 unfolding items_in
 moved c =
     let a = c.args in
@@ -75,7 +75,7 @@ moved c =
 kept : (c : After-move_page-ran)
     →
     let a = c.args in
-    length c.move_page-ran.new.1.0 ≡ length a.image.now
+    length c.move_page-ran.new.image ≡ length a.image.now
 kept c = ap length (moved c).image ∙ length_run _ _
 
 pub overflow_mul-a : goal.overflow_mul-a
@@ -111,7 +111,7 @@ returns c =
     let q : get_last? (freed t) ≡ some (get_or t.free (t.free_count - 1) 0) = front_last t.free t.free_count 0 c.requires.1.free c.if-n-eq0.false in
     rw q (
     record {
-      did = moved m;
+      did = moved (goal.at.returns c).After-move_page-ran;
       table = λ k e.
           let i = did_all (rw e at (moved (goal.at.returns c).After-move_page-ran)) in
           let j = c.join_free.ensures.0 in
@@ -119,7 +119,7 @@ returns c =
           let d = c.drop_free.ensures.0 in
           record {
             sized = j.sized;
-            list = j.list ∙ f.list ∙ rw (d.list, c.see-seen.ensures, lent-sector (get_or t.free (t.free_count - 1) 0) c.move_page-ran.new.1.0, i);
+            list = j.list ∙ f.list ∙ rw (d.list, c.see-seen.ensures, lent-sector (get_or t.free (t.free_count - 1) 0) c.move_page-ran.new.image, i);
             free = j.free ∙ ap (λ (r : List ℕ). r ++ (c.args.x.sector ∷ [])) (f.free ∙ d.free);
           };
     })
