@@ -43,11 +43,12 @@ returns c =
     let a = c.args in
     let e : c.loop-n.n ≡ made.result.rows.count = omega arith in
     let all = ap (λ (k : ℕ). head (a.bytes / 4096) made.result.answer ++ lines 0 (take k made.result.rows.rows)) e ∙ listing_is _ _ made.result made.ensures a.bytes in
-    let p = put_as all (put_both c.put_head-at.ensures c.loop-n.invariant.3) in (
-      (p.fits, sym (length-take-le c.loop-n.at c.loop-n.out p.fits)),
-      record {
+    let p = put_as all (put_both c.put_head-at.ensures c.loop-n.invariant.3) in
+    record {
+      prefix_len = (p.fits, sym (length-take-le c.loop-n.at c.loop-n.out p.fits));
+      listed = record {
         image = made.ensures.image;
         text = p.text;
         rest = p.rest;
-      },
-    )
+      };
+    }
