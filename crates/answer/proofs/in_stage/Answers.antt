@@ -1,5 +1,4 @@
 -- `answer::in_stage` meets its contract. Assumes nothing.
-use borrow.Author.Rules.{rules}
 use Rattle.answer.proofs.in_stage.Goals as goal
 
 pub returns-in-Done : goal.returns-in-Done

@@ -1,5 +1,4 @@
 -- `answer::number` meets its contract: each arm has the number that the definition gives the answer. Assumes nothing.
-use borrow.Author.Rules.{rules}
 use Rattle.answer.proofs.number.Goals as goal
 
 pub returns-in-Done : goal.returns-in-Done

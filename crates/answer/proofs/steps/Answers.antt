@@ -1,5 +1,4 @@
 -- `answer::steps` meets its contract: each arm has the steps that the definition gives the answer. Assumes nothing.
-use borrow.Author.Rules.{rules}
 use Rattle.answer.proofs.steps.Goals as goal
 
 pub returns-in-Done : goal.returns-in-Done

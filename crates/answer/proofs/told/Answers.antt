@@ -3,7 +3,6 @@ use mathlib.Core.Path.{◌≡◌, ap}
 use Prim.Native.Nat.{ℕ, ◌-◌}
 use native.Mathlib.Omega.{arith}
 use Rattle.answer.specs.declared.Answer.TheVariants.{Done}
-use borrow.Author.Rules.{rules}
 use Rattle.answer.proofs.told.Goals as goal
 
 pub returns-then-left-allowance : goal.returns-then-left-allowance

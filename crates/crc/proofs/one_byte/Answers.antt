@@ -7,7 +7,6 @@ use lib.Bits.{bit_xor}
 use Rattle.crc.specs.Crc.{crc_bits}
 use Rattle.crc.proofs.Places.{at_place}
 use Rattle.crc.proofs.Slicing.{eight}
-use borrow.Author.Rules.{rules}
 use Rattle.crc.proofs.one_byte.Goals as goal
 
 pub returns : goal.returns

@@ -2,11 +2,10 @@
 use lib.ListN.{drop_of_length-le}
 use Rattle.crc.specs.Crc.{crc_from}
 use Rattle.crc.proofs.Slicing.{byte-turn, words_first}
-use mathlib.Core.Path.{◌≡◌, sym, ap, ◌∙◌}
-use Prim.Native.Nat.{◌*◌, ◌-◌, ◌/◌, ◌≤◌}
+use mathlib.Core.Path.{sym, ap, ◌∙◌}
+use Prim.Native.Nat.{◌*◌, ◌/◌}
 use native.Mathlib.Omega.{arith}
-use borrow.Author.Rules.{rules}
-use lib.ListN.{length, drop}
+use lib.ListN.{length}
 use Rattle.crc.proofs.run.Goals as goal
 
 pub loop-i-init : goal.loop-i-init

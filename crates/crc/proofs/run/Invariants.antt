@@ -1,10 +1,6 @@
-use lib.ListN.{drop_of_length-le}
 use Rattle.crc.specs.Crc.{crc_from}
-use Rattle.crc.proofs.Slicing.{byte-turn, words_first}
-use mathlib.Core.Path.{◌≡◌, sym, ap, ◌∙◌}
-use Prim.Native.Nat.{◌*◌, ◌-◌, ◌/◌, ◌≤◌}
-use native.Mathlib.Omega.{arith}
-use borrow.Author.Rules.{rules}
+use mathlib.Core.Path.{◌≡◌}
+use Prim.Native.Nat.{◌-◌, ◌≤◌}
 use lib.ListN.{length, drop}
 use Rattle.crc.proofs.run.Given as goal
 

@@ -1,11 +1,8 @@
 use Rattle.word.specs.Number.{part}
 use Rattle.crc.specs.Crc.{crc_from}
-use Rattle.crc.proofs.Slicing.{piece-turn, piece_end}
-use mathlib.Core.Path.{◌≡◌, sym, ap, ◌∙◌}
-use Prim.Native.Nat.{ℕ, ◌*◌, ◌-◌, ◌<◌, ◌≤◌}
-use native.Mathlib.Omega.{arith}
-use borrow.Author.Rules.{rules}
-use lib.ListN.{drop, get_or}
+use mathlib.Core.Path.{◌≡◌}
+use Prim.Native.Nat.{◌*◌, ◌-◌, ◌≤◌}
+use lib.ListN.{drop}
 use Rattle.crc.proofs.words.Given as goal
 
 abbrev pub invariant-loop-k : goal.invariant-loop-k

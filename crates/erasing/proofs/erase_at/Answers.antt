@@ -1,7 +1,6 @@
 -- `found::erase_at` meets its contract: the item's entries are erased, which changes entry states alone. Assumes nothing.
 use Prim.Native.Nat.{◌-◌, ◌/◌, ◌%◌}
 use native.Mathlib.Omega.{arith}
-use borrow.Author.Rules.{rules}
 use Rattle.found.specs.Places.{item_at}
 use Rattle.found.proofs.Alike.{erasing-alike}
 use Rattle.erasing.proofs.erase_at.Goals as goal

@@ -1,19 +1,16 @@
 -- `found::erase_chunks` meets its contract: the chunks from here on are left, read where they stood as the call began. Assumes nothing.
 use mathlib.Core.Path.{◌≡◌, sym, ap, ◌∙◌}
 use mathlib.Core.Bool.{true, false}
-use Prim.Native.Nat.{ℕ, ◌-◌, ◌≤◌}
+use Prim.Native.Nat.{ℕ}
 use native.Mathlib.Omega.{arith}
-use lib.ListN.{length, drop, get_or}
-use borrow.Author.Rules.{rules}
-use borrow.Author.Tests.{not-true, not-false}
-use Rattle.flash.specs.Did.{Goes}
+use lib.ListN.{get_or}
 use Rattle.flash.proofs.Laws.{goes_start, goes_on, goes-stop, goes_end, goes_same}
 use Rattle.found.specs.Ranks.{rank_number}
-use Rattle.found.specs.Places.{item_at, Placed, Alike}
+use Rattle.found.specs.Places.{item_at, Placed}
 use Rattle.found.specs.Found.{Found, chunk_of}
 use Rattle.found.proofs.Alike.{alike_refl, alike_trans, placed_alike, item_alike}
 use Rattle.lists.proofs.Each.{each_at}
-use Rattle.found.proofs.Erasing.{chunks_at, chunk_more, chunk-not, chunks_end}
+use Rattle.found.proofs.Erasing.{chunk_more, chunk-not, chunks_end}
 use Rattle.erasing.proofs.erase_chunks.Goals as goal
 use Rattle.erasing.proofs.erase_chunks.Goals.{After-place_at-place}
 

@@ -1,18 +1,9 @@
-use mathlib.Core.Path.{◌≡◌, sym, ap, ◌∙◌}
-use mathlib.Core.Bool.{true, false}
-use Prim.Native.Nat.{ℕ, ◌-◌, ◌≤◌}
-use native.Mathlib.Omega.{arith}
-use lib.ListN.{length, drop, get_or}
-use borrow.Author.Rules.{rules}
-use borrow.Author.Tests.{not-true, not-false}
+use Prim.Native.Nat.{◌-◌, ◌≤◌}
+use lib.ListN.{length, drop}
 use Rattle.flash.specs.Did.{Goes}
-use Rattle.flash.proofs.Laws.{goes_start, goes_on, goes-stop, goes_end, goes_same}
 use Rattle.found.specs.Ranks.{rank_number}
-use Rattle.found.specs.Places.{item_at, Placed, Alike}
-use Rattle.found.specs.Found.{Found, chunk_of}
-use Rattle.found.proofs.Alike.{alike_refl, alike_trans, placed_alike, item_alike}
-use Rattle.lists.proofs.Each.{each_at}
-use Rattle.found.proofs.Erasing.{chunks_at, chunk_more, chunk-not, chunks_end}
+use Rattle.found.specs.Places.{Alike}
+use Rattle.found.proofs.Erasing.{chunks_at}
 use Rattle.erasing.proofs.erase_chunks.Given as goal
 
 abbrev pub invariant-loop-i : goal.invariant-loop-i

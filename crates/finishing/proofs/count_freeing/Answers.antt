@@ -6,9 +6,8 @@ use Rattle.table.proofs.Listing.{element, listed_end}
 use Rattle.finishing.specs.Finishing.{freeings}
 use Rattle.finishing.proofs.Rounds.{counted}
 use mathlib.Core.Path.{◌≡◌, sym, ap, ◌∙◌}
-use Prim.Native.Nat.{ℕ, ◌+◌, ◌-◌, ◌≤◌}
+use Prim.Native.Nat.{ℕ, ◌+◌, ◌-◌}
 use native.Mathlib.Omega.{arith}
-use borrow.Author.Rules.{rules}
 use lib.ListN.{drop}
 use Rattle.finishing.proofs.count_freeing.Goals as goal
 use Rattle.finishing.proofs.count_freeing.Goals.{After-is_freeing}

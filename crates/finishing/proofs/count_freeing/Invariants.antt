@@ -1,13 +1,7 @@
-use Rattle.entry.specs.States.{one}
-use Rattle.lists.specs.Lists.{sum_of}
 use Rattle.table.specs.Table.{listed}
-use Rattle.table.proofs.Listing.{element, listed_end}
 use Rattle.finishing.specs.Finishing.{freeings}
-use Rattle.finishing.proofs.Rounds.{counted}
-use mathlib.Core.Path.{◌≡◌, sym, ap, ◌∙◌}
-use Prim.Native.Nat.{ℕ, ◌+◌, ◌-◌, ◌≤◌}
-use native.Mathlib.Omega.{arith}
-use borrow.Author.Rules.{rules}
+use mathlib.Core.Path.{◌≡◌}
+use Prim.Native.Nat.{◌+◌, ◌≤◌}
 use lib.ListN.{drop}
 use Rattle.finishing.proofs.count_freeing.Given as goal
 

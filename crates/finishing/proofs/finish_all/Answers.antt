@@ -8,12 +8,10 @@ use Rattle.lists.specs.Lists.{first_of}
 use Rattle.table.specs.Table.{freeing_page, listed, freed}
 use Rattle.table.specs.Sought.{in_state}
 use Rattle.table.proofs.Seeking.{first_same, freeing_is, sought_found, sought_nothing}
-use Rattle.finishing.specs.Finishing.{finishing}
-use Rattle.finishing.proofs.Rounds.{rounds_none, rounds_idle, rounds_more, Left, left_more}
+use Rattle.finishing.proofs.Rounds.{rounds_none, rounds_idle, rounds_more, left_more}
 use mathlib.Core.Path.{◌≡◌, refl, sym, ap, ◌∙◌}
 use native.Mathlib.Omega.{arith}
 use lib.ListN.{length}
-use borrow.Author.Rules.{rules}
 use Rattle.finishing.proofs.finish_all.Goals as goal
 use Rattle.finishing.proofs.finish_all.Goals.{In-One}
 

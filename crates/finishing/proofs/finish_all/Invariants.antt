@@ -1,18 +1,8 @@
-use mathlib.Core.Option.{none, some}
-use Rattle.page.specs.declared.state.PageState.TheVariants.{Freeing}
-use Rattle.flash.proofs.Frame.{length_run}
-use Rattle.answer.specs.declared.Stage.TheVariants.{Finish}
-use Rattle.answer.proofs.Made.{making_start, making-stop, making_end}
-use Rattle.lists.specs.Lists.{first_of}
-use Rattle.table.specs.Table.{freeing_page, listed, freed}
-use Rattle.table.specs.Sought.{in_state}
-use Rattle.table.proofs.Seeking.{first_same, freeing_is, sought_found, sought_nothing}
+use Rattle.table.specs.Table.{listed, freed}
 use Rattle.finishing.specs.Finishing.{finishing}
-use Rattle.finishing.proofs.Rounds.{rounds_none, rounds_idle, rounds_more, Left, left_more}
-use mathlib.Core.Path.{◌≡◌, refl, sym, ap, ◌∙◌}
-use native.Mathlib.Omega.{arith}
+use Rattle.finishing.proofs.Rounds.{Left}
+use mathlib.Core.Path.{◌≡◌}
 use lib.ListN.{length}
-use borrow.Author.Rules.{rules}
 use Rattle.finishing.proofs.finish_all.Given as goal
 
 abbrev pub invariant-loop-n : goal.invariant-loop-n

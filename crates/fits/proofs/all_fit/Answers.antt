@@ -1,19 +1,15 @@
 -- `quick::all_fit` meets its contract: the item of each slot passed fits; it answers no at the first that does not. Assumes nothing.
 use mathlib.Core.Path.{◌≡◌, refl, sym, ap, ◌∙◌}
-use mathlib.Core.Bool.{Bool, true, false, ◌||◌}
-use mathlib.Core.List.{List}
-use Prim.Native.Nat.{ℕ, ◌-◌, ◌≤◌}
+use mathlib.Core.Bool.{true, false}
 use native.Mathlib.Numerals.{add-one}
 use native.Mathlib.Omega.{arith}
 use lib.Dec.{eqb}
 use lib.ListN.{length, get_or}
-use borrow.Author.Tests.{eq-eqb, ne_eqb, not-false, not-true}
-use borrow.Author.Rules.{rules}
+use borrow.Author.Tests.{eq-eqb, ne_eqb}
 use Rattle.page.proofs.Tests.{either_second}
 use Rattle.lists.specs.Lists.{all_to}
 use Rattle.lists.proofs.Member.{refuted, true≢false}
 use Rattle.lists.proofs.Passing.{all_at}
-use Rattle.slots.specs.Slots.{raw_at}
 use Rattle.fits.specs.Fits.{all_fit, part_fits}
 use Rattle.fits.proofs.all_fit.Goals as goal
 use Rattle.fits.proofs.all_fit.Invariants.{slot_fits}

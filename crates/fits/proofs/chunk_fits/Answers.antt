@@ -5,8 +5,7 @@ use mathlib.Core.List.{List}
 use Prim.Native.Nat.{ℕ, ◌≤◌}
 use native.Mathlib.Omega.{arith}
 use lib.Dec.{eqb, ltb}
-use borrow.Author.Tests.{le-leb, not-false, not-true}
-use borrow.Author.Rules.{rules}
+use borrow.Author.Tests.{le-leb}
 use Rattle.entry.specs.Fields.{chunk_number, index_count}
 use Rattle.found.specs.Found.{group_of, is_index, version_of}
 use Rattle.found.specs.Places.{item_at, Placed}
@@ -65,7 +64,7 @@ compared : (c : After-rank_same) (b : Bool) → c.rank_same.result ≡ b →
 compared c b e =
     let led : let a = c.args in
     c.find-index.result ≡ told a.slots.now a.image.now (group_of (item_at a.image.now a.place).raw) =
-      rw c.group_at.ensures.0 at c.find-index.ensures.0
+    rw c.group_at.ensures.0 at c.find-index.ensures.0
     in
     let a = c.args in
     fits_by a.slots.now a.image.now _ c.find-index.result (led) (omega (arith, c.if-index-eq0.false)) (sym c.is_index.ensures ∙ c.if-not-is_index.false) b

@@ -2,12 +2,11 @@
 use mathlib.Core.Path.{refl, ap₂, ◌≡◌, sym, ap, ◌∙◌}
 use mathlib.Core.Bool.{Bool, cond, false, true}
 use mathlib.Core.List.{List}
-use Prim.Native.Nat.{ℕ, ◌+◌, ◌*◌, ◌-◌, ◌≤◌}
+use Prim.Native.Nat.{ℕ, ◌+◌, ◌≤◌}
 use native.Mathlib.Numerals.{add-one}
 use native.Mathlib.Omega.{arith}
 use lib.Dec.{eqb}
 use borrow.Author.Tests.{leb-true}
-use borrow.Author.Rules.{rules}
 use Rattle.entry.specs.Fields.{chunk_size, index_count, index_size}
 use Rattle.lists.specs.Lists.{all_to, sum_to}
 use Rattle.page.proofs.Tests.{both_first}

@@ -1,25 +1,12 @@
-use mathlib.Core.Path.{refl, ap₂, ◌≡◌, sym, ap, ◌∙◌}
-use mathlib.Core.Bool.{Bool, cond, false, true}
-use mathlib.Core.List.{List}
-use Prim.Native.Nat.{ℕ, ◌+◌, ◌*◌, ◌-◌, ◌≤◌}
-use native.Mathlib.Numerals.{add-one}
-use native.Mathlib.Omega.{arith}
-use lib.Dec.{eqb}
-use borrow.Author.Tests.{leb-true}
-use borrow.Author.Rules.{rules}
-use Rattle.entry.specs.Fields.{chunk_size, index_count, index_size}
+use mathlib.Core.Path.{◌≡◌}
+use mathlib.Core.Bool.{true}
+use Prim.Native.Nat.{◌*◌, ◌-◌, ◌≤◌}
+use Rattle.entry.specs.Fields.{chunk_size}
 use Rattle.lists.specs.Lists.{all_to, sum_to}
-use Rattle.page.proofs.Tests.{both_first}
-use Rattle.lists.proofs.Member.{refuted, true≢false}
-use Rattle.lists.proofs.Passing.{all_at}
-use Rattle.found.specs.Found.{version_of}
-use Rattle.found.specs.Places.{item_at, Placed}
 use Rattle.found.specs.Ranks.{rank_number}
-use Rattle.found.proofs.Reading.{byte-here, le_at}
 use Rattle.slots.specs.Names.{chunk_name}
-use Rattle.slots.specs.Slots.{raw_at, told}
 use Rattle.slots.specs.Named.{told_raw}
-use Rattle.fits.specs.Fits.{has_chunk, index_fits}
+use Rattle.fits.specs.Fits.{has_chunk}
 use Rattle.fits.proofs.index_fits.Given as goal
 
 abbrev pub invariant-loop-n : goal.invariant-loop-n

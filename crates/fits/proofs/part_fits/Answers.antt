@@ -1,6 +1,5 @@
 -- `quick::part_fits` meets its contract: an item is a chunk, an index or neither. Assumes nothing.
 use mathlib.Core.Path.{sym, ◌∙◌}
-use borrow.Author.Rules.{rules}
 use Rattle.fits.specs.Fits.{part_fits}
 use Rattle.fits.proofs.part_fits.Goals as goal
 

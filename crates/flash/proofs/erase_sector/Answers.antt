@@ -3,7 +3,6 @@ use native.Mathlib.Omega.{arith}
 use Rattle.flash.specs.Step.{apply}
 use Rattle.flash.proofs.Laws.{did_one, did-zero}
 use Rattle.flash.proofs.Erased.{lent-erase}
-use borrow.Author.Rules.{rules}
 use Rattle.flash.proofs.erase_sector.Goals as goal
 
 pub returns-then-left-eq0 : goal.returns-then-left-eq0

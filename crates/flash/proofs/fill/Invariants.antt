@@ -1,12 +1,7 @@
-use mathlib.Core.Path.{◌≡◌, refl, ◌∙◌}
-use mathlib.Core.List.{◌++◌, append-nil}
+use mathlib.Core.Path.{◌≡◌}
+use mathlib.Core.List.{◌++◌}
 use Prim.Native.Nat.{◌-◌, ◌≤◌}
-use native.Mathlib.Omega.{arith}
-use lib.ListN.{length, drop, replicate, length-set}
-use lib.Seq.{drop-length}
-use borrow.Author.Fill.{fill_more}
-use Rattle.flash.specs.Step.{blank}
-use borrow.Author.Rules.{rules}
+use lib.ListN.{length, drop, replicate}
 use Rattle.flash.proofs.fill.Given as goal
 
 abbrev pub invariant-loop-i : goal.invariant-loop-i

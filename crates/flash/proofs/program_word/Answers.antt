@@ -4,7 +4,6 @@ use native.Mathlib.Omega.{arith}
 use lib.ListN.{length-set}
 use Rattle.flash.specs.Step.{apply, and_word, put, and8}
 use Rattle.flash.proofs.Laws.{did_one, did-zero}
-use borrow.Author.Rules.{rules}
 use Rattle.flash.proofs.program_word.Goals as goal
 
 pub returns-then-left-eq0 : goal.returns-then-left-eq0

@@ -1,12 +1,8 @@
-use mathlib.Core.Path.{◌≡◌, refl}
+use mathlib.Core.Path.{◌≡◌}
 use Prim.Native.Nat.{◌-◌, ◌≤◌}
-use native.Mathlib.Omega.{arith}
 use lib.ListN.{length}
 use Rattle.flash.specs.Words.{words}
 use Rattle.flash.specs.Did.{Goes}
-use Rattle.flash.proofs.Laws.{goes_start, goes_on, goes-stop, goes_end}
-use Rattle.flash.proofs.Words.{words_more, words_end}
-use borrow.Author.Rules.{rules}
 use Rattle.flash.proofs.program_words.Given as goal
 
 abbrev pub invariant-loop-k : goal.invariant-loop-k

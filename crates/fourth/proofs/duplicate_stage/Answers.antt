@@ -5,7 +5,6 @@ use mathlib.Core.List.{List, flat_map}
 use Prim.Native.Nat.{ℕ, ◌<◌}
 use native.Mathlib.Omega.{arith}
 use lib.ListN.{take, get_or}
-use borrow.Author.Rules.{rules}
 use Rattle.flash.specs.Did.{Did}
 use Rattle.flash.proofs.Laws.{goes_start, goes_then, goes-stop, goes_last}
 use Rattle.table.specs.Table.{listed}

@@ -2,7 +2,6 @@
 use mathlib.Core.Path.{ap, ◌∙◌}
 use mathlib.Core.List.{List}
 use Prim.Native.Nat.{ℕ}
-use borrow.Author.Rules.{rules}
 use Rattle.entry.specs.declared.states.Totals.{Totals}
 use Rattle.entry.specs.States.{empty, count_state, totals_of}
 use Rattle.flash.proofs.Sectors.{lent-sector}

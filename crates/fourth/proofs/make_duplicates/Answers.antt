@@ -1,10 +1,8 @@
 -- `duplicates::make_duplicates` meets its contract: the runs of the sorted places are the groups. Assumes nothing.
-use denote.Slice.{shr_slice_at}
 use mathlib.Core.Path.{◌≡◌}
 use Prim.Native.Nat.{ℕ, ◌<◌}
 use native.Mathlib.Omega.{arith}
 use lib.ListN.{take, get_or}
-use borrow.Author.Rules.{rules}
 use Rattle.lists.specs.Lists.{sort_by}
 use Rattle.found.specs.Places.{items_at, Placed}
 use Rattle.sort.specs.declared.choice.Order.TheVariants.{Group}

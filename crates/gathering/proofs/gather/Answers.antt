@@ -9,7 +9,6 @@ use borrow.Author.Rules.{rules}
 use Rattle.page.specs.declared.state.PageState.TheVariants.{Blank}
 use Rattle.page.specs.Walk.{Laid, walk}
 use Rattle.page.specs.Unread.{unread_from}
-use Rattle.records.specs.Notes.{Noted}
 use Rattle.records.proofs.Noting.{noted_more}
 use Rattle.table.specs.declared.Page.{Page}
 use Rattle.table.specs.Table.{listed}

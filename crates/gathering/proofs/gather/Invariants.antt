@@ -1,22 +1,11 @@
-use mathlib.Core.Path.{◌≡◌, refl, sym, ap, ◌∙◌}
-use mathlib.Core.List.{append-nil, flat_map, List, ◌++◌, map}
-use Prim.Native.Nat.{ℕ, ◌+◌, ◌*◌, ◌-◌, ◌≤◌}
-use native.Mathlib.Omega.{arith}
-use lib.ListN.{length-take, length-drop, length-set, length, take, drop, get_or}
-use borrow.Author.Rules.{rules}
-use Rattle.page.specs.declared.state.PageState.TheVariants.{Blank}
-use Rattle.page.specs.Walk.{Laid, walk}
-use Rattle.page.specs.Unread.{unread_from}
+use mathlib.Core.Path.{◌≡◌}
+use mathlib.Core.List.{◌++◌, map}
+use Prim.Native.Nat.{◌*◌, ◌-◌, ◌≤◌}
+use lib.ListN.{length, take, drop}
 use Rattle.records.specs.Notes.{Noted}
-use Rattle.records.proofs.Noting.{noted_more}
-use Rattle.table.specs.declared.Page.{Page}
 use Rattle.table.specs.Table.{listed}
-use Rattle.flash.proofs.Sectors.{lent-sector}
-use Rattle.table.proofs.Listing.{element, listed_end}
-use Rattle.found.specs.Places.{place_of, Lies}
+use Rattle.found.specs.Places.{place_of}
 use Rattle.found.specs.Found.{found}
-use Rattle.found.proofs.Finding.{places_more}
-use Rattle.lists.proofs.Each.{each-front}
 use Rattle.gathering.proofs.gather.Given as goal
 
 abbrev pub invariant-loop-i : goal.invariant-loop-i

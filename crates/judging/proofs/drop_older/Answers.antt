@@ -4,8 +4,6 @@ use mathlib.Core.Bool.{Bool, true, false, cond}
 use mathlib.Core.Option.{some}
 use Prim.Native.Nat.{ℕ}
 use lib.Dec.{eqb}
-use borrow.Author.Rules.{rules}
-use borrow.Author.Tests.{not-true, not-false}
 use Rattle.flash.proofs.Laws.{did_none}
 use Rattle.found.specs.Ranks.{rank_number}
 use Rattle.found.specs.Places.{item_at, items_at, Placed}
@@ -46,7 +44,7 @@ first_is : (c : In-At) →
     let a = c.args in counting (version_in (rank_number a.g) 0) (items_at a.image.now a.places.now) ≡ some (item_at a.image.now c.in-At.first)
 first_is c =
     let counts : let a = c.args in newest_of a.image.now c.newest_of.result ≡ counting (version_in (rank_number a.g) 0) (items_at a.image.now a.places.now) =
-      let a = c.args in
+    let a = c.args in
     rw c.version_in-v.ensures at (c.newest_of.ensures.0 ∙ newest-counts _ (items_at a.image.now a.places.now))
     in
     let a = c.args in sym (counts) ∙ ap (newest_of a.image.now) c.in-At.is
@@ -57,7 +55,7 @@ second_is : (c : In-At-newest_of) →
 second_is c =
     let counts_2 : let a = c.args in
     newest_of a.image.now c.newest_of-2.result ≡ counting (version_in (rank_number a.g) 0x80) (items_at a.image.now a.places.now) =
-      let a = c.args in
+    let a = c.args in
     rw c.version_in-w.ensures at (c.newest_of-2.ensures.0 ∙ newest-counts _ (items_at a.image.now a.places.now))
     in
     let a = c.args in sym (counts_2) ∙ ap (newest_of a.image.now) c.in-At-newest_of.is
@@ -119,32 +117,32 @@ goes : (c : After-rank_same) (t : Bool) → c.rank_same.result ≡ t →
     older fs g ≡ cond t (drop_version (version_in g 0x80) (item_at a.image.now c.in-At-newest_of.second) fs) (drop_version (version_in g 0) (item_at a.image.now c.in-At.first) fs)
 goes c t e =
     let counts : let a = c.args in newest_of a.image.now c.newest_of.result ≡ counting (version_in (rank_number a.g) 0) (items_at a.image.now a.places.now) =
-      let a = c.args in
+    let a = c.args in
     rw c.version_in-v.ensures at (c.newest_of.ensures.0 ∙ newest-counts _ (items_at a.image.now a.places.now))
     in
     let counts_2 : let a = c.args in
     newest_of a.image.now c.newest_of-2.result ≡ counting (version_in (rank_number a.g) 0x80) (items_at a.image.now a.places.now) =
-      let a = c.args in
+    let a = c.args in
     rw c.version_in-w.ensures at (c.newest_of-2.ensures.0 ∙ newest-counts _ (items_at a.image.now a.places.now))
     in
     let first_is : let a = c.args in counting (version_in (rank_number a.g) 0) (items_at a.image.now a.places.now) ≡ some (item_at a.image.now c.in-At.first) =
-      let a = c.args in sym (counts) ∙ ap (newest_of a.image.now) c.in-At.is
+    let a = c.args in sym (counts) ∙ ap (newest_of a.image.now) c.in-At.is
     in
     let second_is : let a = c.args in
     counting (version_in (rank_number a.g) 0x80) (items_at a.image.now a.places.now) ≡ some (item_at a.image.now c.in-At-newest_of.second) =
-      let a = c.args in sym (counts_2) ∙ ap (newest_of a.image.now) c.in-At-newest_of.is
+    let a = c.args in sym (counts_2) ∙ ap (newest_of a.image.now) c.in-At-newest_of.is
     in
     let sound_is : let a = c.args in
     c.is_sound.result ≡ sound (version_in (rank_number a.g) 0) (items_at a.image.now a.places.now) (item_at a.image.now c.in-At.first) =
-      rw c.version_in-v.ensures at c.is_sound.ensures
+    rw c.version_in-v.ensures at c.is_sound.ensures
     in
     let sound_is_2 : let a = c.args in
     c.is_sound-2.result ≡ sound (version_in (rank_number a.g) 0x80) (items_at a.image.now a.places.now) (item_at a.image.now c.in-At-newest_of.second) =
-      rw c.version_in-w.ensures at c.is_sound-2.ensures
+    rw c.version_in-w.ensures at c.is_sound-2.ensures
     in
     let newest_is : let a = c.args in
     newest_of a.image.now c.newest_of-3.result ≡ newest_index (version_in (rank_number a.g) 0) (version_in (rank_number a.g) 0x80) (items_at a.image.now a.places.now) =
-      rw (c.version_in-v.ensures, c.version_in-w.ensures) at c.newest_of-3.ensures.0
+    rw (c.version_in-v.ensures, c.version_in-w.ensures) at c.newest_of-3.ensures.0
     in
     let a = c.args in
     let g = rank_number a.g in

@@ -1,6 +1,5 @@
 -- `versions::judge_version` meets its contract: the index that counts, and whether it is right, decide the definition's cases. Assumes nothing.
 use mathlib.Core.Path.{sym, ap, ◌∙◌}
-use borrow.Author.Rules.{rules}
 use Rattle.flash.proofs.Laws.{did_none}
 use Rattle.found.specs.Ranks.{rank_number}
 use Rattle.found.specs.Places.{items_at}

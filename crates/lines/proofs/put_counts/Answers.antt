@@ -1,5 +1,4 @@
 -- `listing::put_counts` meets its contract: a field behind a field. Assumes nothing.
-use borrow.Author.Rules.{rules}
 use Rattle.text.proofs.Putting.{put_both}
 use Rattle.lines.specs.Lines.{counts}
 use Rattle.lines.proofs.put_counts.Goals as goal

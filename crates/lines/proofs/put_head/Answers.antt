@@ -1,6 +1,5 @@
 -- `listing::put_head` meets its contract: each part goes behind the last. Assumes nothing.
 use mathlib.Core.Path.{ap}
-use borrow.Author.Rules.{rules}
 use Rattle.text.proofs.Putting.{put_both, put_as}
 use Rattle.text.specs.Text.{word, field}
 use Rattle.lines.specs.Lines.{head}

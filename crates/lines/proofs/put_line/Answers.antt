@@ -1,6 +1,5 @@
 -- `listing::put_line` meets its contract: a free sector's line ends behind its state. Assumes nothing.
 use mathlib.Core.Path.{sym, ◌∙◌}
-use borrow.Author.Rules.{rules}
 use Rattle.text.proofs.Putting.{put_both, put_as}
 use Rattle.lines.proofs.Line.{line_free, line-page}
 use Rattle.lines.proofs.put_line.Goals as goal

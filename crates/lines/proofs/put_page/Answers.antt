@@ -1,5 +1,4 @@
 -- `listing::put_page` meets its contract: the sequence, the counts behind it, and then the unread entries. Assumes nothing.
-use borrow.Author.Rules.{rules}
 use Rattle.text.proofs.Putting.{put_both}
 use Rattle.lines.specs.Lines.{page_text}
 use Rattle.lines.proofs.put_page.Goals as goal

@@ -1,5 +1,4 @@
 -- `listing::put_state` meets its contract: one word for each state. Assumes nothing.
-use borrow.Author.Rules.{rules}
 use Rattle.lines.proofs.put_state.Goals as goal
 
 pub returns-in-Blank : goal.returns-in-Blank

@@ -1,14 +1,13 @@
 -- `listing::list_image` meets its contract: a line for each row, of which there are 16 at most. Assumes nothing.
 use mathlib.Core.Path.{◌≡◌, sym, ap, ◌∙◌}
 use mathlib.Core.List.{◌++◌}
-use Prim.Native.Nat.{ℕ, ◌-◌, ◌/◌, ◌≤◌, ◌<◌}
+use Prim.Native.Nat.{ℕ, ◌/◌, ◌<◌}
 use native.Mathlib.Omega.{arith}
 use native.Mathlib.Numerals.{add-one}
 use lib.ListN.{length, take}
 use lib.Seq.{length-take-le}
 use borrow.Author.Rules.{rules}
 use Rattle.recover.proofs.Fixed.{rows_fit}
-use Rattle.text.specs.Text.{Put}
 use Rattle.lines.specs.Lines.{head}
 use Rattle.listing.specs.Listing.{lines}
 use Rattle.text.proofs.Putting.{put-nothing, put_both, put_as}

@@ -1,11 +1,8 @@
 -- `marking::mark_erased` meets its contract: the steps that are left, made on the image as it is, are the whole. Assumes nothing.
 use mathlib.Core.Path.{◌≡◌, refl}
-use Prim.Native.Nat.{◌+◌, ◌-◌, ◌≤◌}
+use Prim.Native.Nat.{◌+◌, ◌-◌}
 use native.Mathlib.Omega.{arith}
-use lib.ListN.{length}
-use Rattle.flash.specs.Did.{Goes}
 use Rattle.flash.proofs.Laws.{goes_start, goes_on, goes-stop, goes_end}
-use Rattle.marking.specs.Marking.{unmarking}
 use Rattle.marking.proofs.Turns.{unmarking_more, unmarking_end}
 use borrow.Author.Rules.{rules}
 use Rattle.marking.proofs.mark_erased.Goals as goal
@@ -21,13 +18,12 @@ returns-in_default c =
     goes-stop _ c.loop-end.invariant.3 (unmarking_more _ _ _ (omega arith)) c.state_step-r.ensures c.in_default.is
 
 pub loop-end-preserved : goal.loop-end-preserved
-loop-end-preserved c =
-    (
-      omega arith,
-      omega arith,
-      search rules,
-      goes_on c.loop-end.invariant.3 (unmarking_more _ _ _ (omega arith)) c.state_step-r.ensures c.in-Done.is,
-    )
+loop-end-preserved c = (
+  omega arith,
+  omega arith,
+  search rules,
+  goes_on c.loop-end.invariant.3 (unmarking_more _ _ _ (omega arith)) c.state_step-r.ensures c.in-Done.is,
+)
 
 pub returns : goal.returns
 returns c = goes_end c.loop-end.invariant.3 (unmarking_end _ _ _ (omega arith))

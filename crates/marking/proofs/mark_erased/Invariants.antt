@@ -1,12 +1,8 @@
-use mathlib.Core.Path.{◌≡◌, refl}
+use mathlib.Core.Path.{◌≡◌}
 use Prim.Native.Nat.{◌+◌, ◌-◌, ◌≤◌}
-use native.Mathlib.Omega.{arith}
 use lib.ListN.{length}
 use Rattle.flash.specs.Did.{Goes}
-use Rattle.flash.proofs.Laws.{goes_start, goes_on, goes-stop, goes_end}
 use Rattle.marking.specs.Marking.{unmarking}
-use Rattle.marking.proofs.Turns.{unmarking_more, unmarking_end}
-use borrow.Author.Rules.{rules}
 use Rattle.marking.proofs.mark_erased.Given as goal
 
 abbrev pub invariant-loop-end : goal.invariant-loop-end

@@ -1,12 +1,8 @@
-use mathlib.Core.Path.{◌≡◌, refl}
-use Prim.Native.Nat.{◌+◌, ◌-◌, ◌≤◌}
-use native.Mathlib.Omega.{arith}
+use mathlib.Core.Path.{◌≡◌}
+use Prim.Native.Nat.{◌-◌, ◌≤◌}
 use lib.ListN.{length}
 use Rattle.flash.specs.Did.{Goes}
-use Rattle.flash.proofs.Laws.{goes_start, goes_on, goes-stop, goes_end}
 use Rattle.marking.specs.Marking.{marking}
-use Rattle.marking.proofs.Turns.{marking_more, marking_end}
-use borrow.Author.Rules.{rules}
 use Rattle.marking.proofs.mark_written.Given as goal
 
 abbrev pub invariant-loop-e : goal.invariant-loop-e

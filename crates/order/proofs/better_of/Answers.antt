@@ -1,7 +1,6 @@
 -- `order::better_of` meets its contract: each test that led to a return decides the definition's. Assumes nothing.
-use borrow.Author.Tests.{lt-ltb, le-ltb, not-true, not-false}
+use borrow.Author.Tests.{lt-ltb, le-ltb}
 use Rattle.table.specs.Sought.{better_among}
-use borrow.Author.Rules.{rules}
 use Rattle.order.proofs.better_of.Goals as goal
 
 pub returns-then-not-is_active : goal.returns-then-not-is_active

@@ -1,5 +1,4 @@
 -- `order::close` meets its contract: the test decides. Assumes nothing.
-use borrow.Author.Rules.{rules}
 use Rattle.order.proofs.close.Goals as goal
 
 pub returns-then-is_active : goal.returns-then-is_active

@@ -4,9 +4,8 @@ use lib.ListN.{length-set}
 use Rattle.order.specs.Turns.{closed_page}
 use Rattle.order.proofs.Turns.{closed_more}
 use mathlib.Core.Path.{◌≡◌, refl, sym, ap, ◌∙◌}
-use Prim.Native.Nat.{ℕ, ◌-◌, ◌<◌, ◌≤◌}
+use Prim.Native.Nat.{ℕ, ◌<◌}
 use native.Mathlib.Omega.{arith}
-use borrow.Author.Rules.{rules}
 use lib.ListN.{length, take}
 use Rattle.order.proofs.close_all.Goals as goal
 

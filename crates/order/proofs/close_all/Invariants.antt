@@ -1,11 +1,7 @@
 use mathlib.Core.List.{map}
-use lib.ListN.{length-set}
 use Rattle.order.specs.Turns.{closed_page}
-use Rattle.order.proofs.Turns.{closed_more}
-use mathlib.Core.Path.{◌≡◌, refl, sym, ap, ◌∙◌}
-use Prim.Native.Nat.{ℕ, ◌-◌, ◌<◌, ◌≤◌}
-use native.Mathlib.Omega.{arith}
-use borrow.Author.Rules.{rules}
+use mathlib.Core.Path.{◌≡◌}
+use Prim.Native.Nat.{◌-◌, ◌≤◌}
 use lib.ListN.{length, take}
 use Rattle.order.proofs.close_all.Given as goal
 

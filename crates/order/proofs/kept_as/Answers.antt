@@ -1,6 +1,5 @@
 -- `order::kept_as` meets its contract: the test decides. Assumes nothing.
 use borrow.Author.Tests.{eq-eqb, ne_eqb}
-use borrow.Author.Rules.{rules}
 use Rattle.order.proofs.kept_as.Goals as goal
 
 pub returns-then-seen-eq0 : goal.returns-then-seen-eq0

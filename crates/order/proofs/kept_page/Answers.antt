@@ -8,9 +8,8 @@ use Rattle.table.proofs.Listing.{element, listed_end}
 use Rattle.order.specs.Order.{newer_page, kept}
 use Rattle.table.proofs.Seeking.{among_more}
 use mathlib.Core.Path.{◌≡◌, sym, ap, ◌∙◌}
-use Prim.Native.Nat.{ℕ, ◌+◌, ◌-◌, ◌≤◌}
+use Prim.Native.Nat.{ℕ, ◌+◌, ◌-◌}
 use native.Mathlib.Omega.{arith}
-use borrow.Author.Rules.{rules}
 use lib.ListN.{drop}
 use Rattle.order.proofs.kept_page.Goals as goal
 

@@ -1,15 +1,9 @@
-use mathlib.Core.List.{List}
 use Rattle.lists.specs.Lists.{keep, best as bestOf}
-use Rattle.table.specs.declared.Page.{Page}
 use Rattle.table.specs.Table.{active_page, listed}
-use Rattle.table.specs.Sought.{sought_of, better_among}
-use Rattle.table.proofs.Listing.{element, listed_end}
-use Rattle.order.specs.Order.{newer_page, kept}
-use Rattle.table.proofs.Seeking.{among_more}
-use mathlib.Core.Path.{◌≡◌, sym, ap, ◌∙◌}
-use Prim.Native.Nat.{ℕ, ◌+◌, ◌-◌, ◌≤◌}
-use native.Mathlib.Omega.{arith}
-use borrow.Author.Rules.{rules}
+use Rattle.table.specs.Sought.{sought_of}
+use Rattle.order.specs.Order.{newer_page}
+use mathlib.Core.Path.{◌≡◌}
+use Prim.Native.Nat.{◌≤◌}
 use lib.ListN.{drop}
 use Rattle.order.proofs.kept_page.Given as goal
 

@@ -1,7 +1,6 @@
 -- `order::make_marks` meets its contract: the marks of the others, then the kept page's. Assumes nothing.
 use mathlib.Core.Path.{refl}
 use Rattle.flash.proofs.Laws.{goes_start, goes_on, goes-stop, goes_last}
-use borrow.Author.Rules.{rules}
 use Rattle.order.proofs.make_marks.Goals as goal
 
 pub returns-in_default : goal.returns-in_default

@@ -2,7 +2,6 @@
 use borrow.Author.Tests.{eq-eqb, ne_eqb}
 use Rattle.flash.proofs.Laws.{did_none}
 use Rattle.order.specs.Turns.{kept_mark}
-use borrow.Author.Rules.{rules}
 use Rattle.order.proofs.mark_kept.Goals as goal
 
 pub returns-then-empty-eq0 : goal.returns-then-empty-eq0

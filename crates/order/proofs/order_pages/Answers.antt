@@ -8,7 +8,6 @@ use Rattle.table.proofs.Seeking.{sought_found, sought_nothing}
 use Rattle.table.proofs.Places.{out_placed, page-fits}
 use Rattle.order.specs.Order.{kept, order_steps, order_list, ordering, ordered}
 use Rattle.order.proofs.Turns.{kept_in, ordering_is, ordered_is}
-use borrow.Author.Rules.{rules}
 use Rattle.order.proofs.order_pages.Goals as goal
 use Rattle.order.proofs.order_pages.Goals.{In-One}
 

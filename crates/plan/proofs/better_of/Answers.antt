@@ -4,7 +4,6 @@ use native.Mathlib.Omega.{arith}
 use borrow.Author.Tests.{lt-ltb, le-ltb, le-leb, lt-leb}
 use Rattle.plan.specs.Plan.{points}
 use Rattle.table.specs.Sought.{better_among}
-use borrow.Author.Rules.{rules}
 use Rattle.plan.proofs.better_of.Goals as goal
 
 pub returns-then-seen-ge-ALL_ENTRIES : goal.returns-then-seen-ge-ALL_ENTRIES

@@ -1,9 +1,8 @@
 -- `plan::choose` meets its contract: what is chosen so far is the best of the candidates from here on. Assumes nothing.
 use mathlib.Core.Path.{◌≡◌, sym, ap, ◌∙◌}
 use mathlib.Core.List.{List}
-use Prim.Native.Nat.{ℕ, ◌+◌, ◌-◌, ◌≤◌}
+use Prim.Native.Nat.{ℕ, ◌+◌, ◌-◌}
 use native.Mathlib.Omega.{arith}
-use borrow.Author.Rules.{rules}
 use lib.ListN.{drop}
 use Rattle.lists.specs.Lists.{keep, best as bestOf}
 use Rattle.table.specs.declared.Page.{Page}

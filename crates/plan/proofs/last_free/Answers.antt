@@ -2,7 +2,6 @@
 use mathlib.Core.Path.{sym, ap}
 use Rattle.plan.specs.Choosing.{target_of}
 use Rattle.table.proofs.Out.{front_last}
-use borrow.Author.Rules.{rules}
 use Rattle.plan.proofs.last_free.Goals as goal
 
 pub returns : goal.returns

@@ -10,7 +10,6 @@ use Rattle.table.specs.Table.{sequence, listed, freed}
 use Rattle.plan.specs.declared.Target.TheVariants.{Sector, NoSector}
 use Rattle.plan.specs.Plan.{plan_to}
 use Rattle.plan.specs.Choosing.{target_of}
-use borrow.Author.Rules.{rules}
 use Rattle.plan.proofs.plan_copy.Goals as goal
 
 none_of : (o : Option ℕ) → target_of o ≡ NoSector → o ≡ none

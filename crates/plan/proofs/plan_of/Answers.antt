@@ -4,7 +4,6 @@ use borrow.Author.Tests.{eq-eqb, ne_eqb}
 use Rattle.table.specs.Table.{listed}
 use Rattle.table.proofs.Seeking.{sought_found, sought_nothing}
 use Rattle.plan.specs.Plan.{chosen, plan_with, plan}
-use borrow.Author.Rules.{rules}
 use Rattle.plan.proofs.plan_of.Goals as goal
 
 pub returns-then-any_active : goal.returns-then-any_active

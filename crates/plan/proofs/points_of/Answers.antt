@@ -3,7 +3,6 @@ use mathlib.Core.Path.{◌≡◌}
 use native.Mathlib.Omega.{arith}
 use borrow.Author.Tests.{eq-eqb, ne_eqb}
 use Rattle.plan.specs.Plan.{points}
-use borrow.Author.Rules.{rules}
 use Rattle.plan.proofs.points_of.Goals as goal
 
 pub returns-then-erased-eq0 : goal.returns-then-erased-eq0

@@ -1,12 +1,11 @@
 -- `quick::fill_all` meets its contract: the table has the items of the pages passed, and what their walks counted is noted. Assumes nothing.
 use mathlib.Core.Path.{◌≡◌, refl, sym, ap, ◌∙◌}
 use mathlib.Core.List.{append-nil, flat_map, List, [], map}
-use Prim.Native.Nat.{ℕ, ◌+◌, ◌*◌, ◌-◌, ◌≤◌}
+use Prim.Native.Nat.{ℕ, ◌+◌, ◌*◌, ◌-◌}
 use native.Mathlib.Omega.{arith}
 use lib.ListN.{length-take, length-drop, length-set, length, take, drop, get_or, set}
 use lib.Seq.{length-take-le}
 use borrow.Author.Rules.{rules}
-use borrow.Author.Tests.{not-false, not-true}
 use Rattle.page.specs.declared.state.PageState.TheVariants.{Blank}
 use Rattle.flash.specs.Step.{sector}
 use Rattle.page.specs.Walk.{Laid, walk}
@@ -21,9 +20,8 @@ use Rattle.table.proofs.Listing.{element, listed_end}
 use Rattle.found.specs.Places.{place_of, Lies}
 use Rattle.found.specs.Found.{found}
 use Rattle.lists.proofs.Each.{each-front}
-use Rattle.slots.specs.Slots.{Leads}
 use Rattle.slots.proofs.Filling.{none_leads, none_named}
-use Rattle.quick.proofs.Pages.{page-filled, page_placed, page-stopped, places_on, SoFar}
+use Rattle.quick.proofs.Pages.{page-filled, page_placed, page-stopped, places_on}
 use Rattle.quick.proofs.fill_all.Goals as goal
 use Rattle.quick.proofs.fill_all.Goals.{After-p-1, After-places-walked}
 
@@ -56,7 +54,7 @@ noted : (c : After-places-walked) →
     Noted (set c.loop-i.notes (get_or a.table.pages c.loop-i.i no_page).sector (c.places-walked.result.unread + 1)) a.image.now
 noted c =
     let lies : let a = c.args in Lies a.image.now (get_or a.table.pages c.loop-i.i no_page) =
-      let t = c.args.table in
+    let t = c.args.table in
     each-front (Lies c.args.image.now) t.pages t.count no_page c.requires.1.list c.requires.2 c.loop-i.i (omega arith)
     in
     let a = c.args in

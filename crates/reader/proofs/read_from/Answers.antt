@@ -5,7 +5,6 @@ use Prim.Native.Nat.{ℕ}
 use native.Mathlib.Omega.{arith}
 use Rattle.reading.specs.Reading.{read_on}
 use Rattle.reader.proofs.Begins.{first_for, same_from}
-use borrow.Author.Rules.{rules}
 use Rattle.reader.proofs.read_from.Goals as goal
 
 pub returns-then-entry-first : goal.returns-then-entry-first

@@ -1,7 +1,6 @@
 -- `reader::begins_at` meets its contract: each test that led to a return decides the definition's. Assumes nothing.
 use borrow.Author.Tests.{eq-eqb, ne_eqb}
 use Rattle.reading.specs.Reading.{has_none, begins_at}
-use borrow.Author.Rules.{rules}
 use Rattle.reading.proofs.begins_at.Goals as goal
 
 pub returns-then-sector-ne-SECTOR_BYTES : goal.returns-then-sector-ne-SECTOR_BYTES

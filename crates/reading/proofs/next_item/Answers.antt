@@ -2,12 +2,11 @@
 -- passed over from the first place on but for the count so far. Assumes nothing.
 use mathlib.Core.Path.{◌≡◌, sym, ap, ◌∙◌}
 use mathlib.Core.Bool.{true}
-use Prim.Native.Nat.{◌+◌, ◌-◌, ◌≤◌}
+use Prim.Native.Nat.{◌+◌, ◌≤◌}
 use native.Mathlib.Omega.{arith}
-use borrow.Author.Rules.{rules}
 use Rattle.entry.specs.Fields.{entry_at, span_of}
 use Rattle.page.specs.declared.walk.Reading.TheVariants.{Item}
-use Rattle.page.specs.Walk.{is_item, walk, header_of, reading_of}
+use Rattle.page.specs.Walk.{is_item, header_of, reading_of}
 use Rattle.page.specs.Unread.{passed_from}
 use Rattle.page.proofs.Walking.{item_span, walk_skip, reading_none, reading_item, reading_span}
 use Rattle.page.proofs.Passed.{passed-past, passed_item, passed_skip}

@@ -6,7 +6,6 @@ use Rattle.flash.proofs.Laws.{goes_start, goes_then, goes-stop, goes_last}
 use Rattle.relocate.specs.Move.{moving}
 use Rattle.table.specs.Table.{items_in}
 use Rattle.reclaim.specs.Reclaim.{plan_steps}
-use borrow.Author.Rules.{rules}
 use Rattle.reclaim.proofs.move_marked.Goals as goal
 
 pub returns-in_default : goal.returns-in_default

@@ -1,9 +1,7 @@
 -- `reclaim::reclaim` meets its contract: the plan decides, and its steps are made under the allowance. Assumes nothing.
 use mathlib.Core.Path.{◌≡◌, sym, ap₂, ◌∙◌, subst}
 use mathlib.Core.Bool.{true, false}
-use mathlib.Core.Logic.{⊎_elim}
 use native.Mathlib.Omega.{arith}
-use Rattle.page.proofs.Tests.{not-true, not-false}
 use Rattle.table.specs.Table.{whole_sectors, pages, frees}
 use Rattle.plan.specs.Plan.{plan}
 use Rattle.reclaim.specs.Reclaim.{plan_steps}
@@ -64,6 +62,6 @@ returns c =
     let p = planned (goal.at.returns c).After-plan_of-plan in
     let told = rw c.in_stage.ensures at c.told.ensures in
     elim c.match-plan.branch [
-      in-Clear x ↦ promised a.image.now a.allowance _ c.match-plan.image c.match-plan.ran _ w (p ∙ x.in-Clear.is) (λ q. q) (rw (x.image-is, x.ran-is) x.erase_sector-ran.ensures) told
+      | in-Clear x ↦ promised a.image.now a.allowance _ c.match-plan.image c.match-plan.ran _ w (p ∙ x.in-Clear.is) (λ q. q) (rw (x.image-is, x.ran-is) x.erase_sector-ran.ensures) told
       | in-Move x ↦ promised a.image.now a.allowance _ c.match-plan.image c.match-plan.ran _ w (p ∙ x.in-Move.is) (λ q. q) (rw (x.image-is, x.ran-is) x.move_marked-ran.ensures) told
     ]

@@ -1,5 +1,5 @@
 -- `records::fill` meets its contract: one more row is stored. Assumes nothing.
-use Rattle.std.proofs.Common.{◌≡◌, ◌∙◌, ap, ℕ, suc, ◌+◌, ◌<◌, ◌++◌, List, length, get_or, take, drop, arith, rules, refl, sym}
+use Rattle.std.proofs.Common.{◌≡◌, ◌∙◌, ap, ℕ, suc, ◌+◌, ◌<◌, List, length, arith, rules}
 use mathlib.Core.Path.{ap₂}
 use lib.ListN.{set}
 use Rattle.page.specs.declared.«record».PageRecord.{PageRecord}
@@ -14,6 +14,6 @@ loop-i-preserved c =
     let whole : i < length c.args.table.rows = search rules in (
       omega arith,
       ap₂ (λ (xs : List PageRecord) (r : PageRecord). set xs i r) c.loop-i.invariant.1 c.row_at.ensures
-      ∙ one_more blank_record i c.args.table.rows c.args.records.now whole (omega arith)
-      ∙ ap (λ (k : ℕ). filled k c.args.table.rows c.args.records.now) next,
+          ∙ one_more blank_record i c.args.table.rows c.args.records.now whole (omega arith)
+          ∙ ap (λ (k : ℕ). filled k c.args.table.rows c.args.records.now) next,
     )

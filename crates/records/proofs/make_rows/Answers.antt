@@ -1,10 +1,10 @@
 -- `records::make_rows` meets its contract: what is made so far is the records of the sectors passed. Assumes nothing.
 use mathlib.Core.Path.{◌≡◌, ap, ap₂, ◌∙◌}
 use mathlib.Core.List.{List}
-use Prim.Native.Nat.{ℕ, ◌-◌, ◌≤◌}
+use Prim.Native.Nat.{ℕ}
 use native.Mathlib.Omega.{arith}
 use borrow.Author.Rules.{rules}
-use lib.ListN.{length, get_or, set, length-set}
+use lib.ListN.{get_or, set, length-set}
 use Rattle.flash.specs.Step.{sector}
 use Rattle.page.specs.declared.seen.Seen.{Seen}
 use Rattle.page.specs.declared.«record».PageRecord.{PageRecord}

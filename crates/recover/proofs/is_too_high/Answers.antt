@@ -2,7 +2,6 @@
 use mathlib.Core.Path.{sym, ◌∙◌}
 use Rattle.table.specs.Table.{listed}
 use Rattle.stages.proofs.Listed.{none_freeing, some_freeing}
-use borrow.Author.Rules.{rules}
 use Rattle.recover.proofs.is_too_high.Goals as goal
 
 pub returns-then-count-eq0 : goal.returns-then-count-eq0

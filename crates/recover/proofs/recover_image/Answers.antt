@@ -2,7 +2,6 @@
 use mathlib.Core.Path.{◌≡◌, sym, ap, ◌∙◌}
 use mathlib.Core.Bool.{true, false}
 use Prim.Native.Nat.{◌≤◌}
-use borrow.Author.Tests.{not-true, not-false}
 use Rattle.answer.specs.declared.Went.TheVariants.{Ended}
 use Rattle.stages.specs.Stages.{too_high}
 use Rattle.table.specs.Table.{sectors_of, whole_sectors, pages, frees, Holds}
@@ -11,7 +10,6 @@ use Rattle.records.specs.declared.scanned.Scanned.{Scanned}
 use Rattle.records.specs.Scanned.{scanned_of}
 use Rattle.records.specs.Records.{rows_of}
 use Rattle.recover.proofs.Promised.{refused-sectors, refused-records, refused-sequences, stopped_short, ended-rows, seen_idle, none_walked, made_size}
-use borrow.Author.Rules.{rules}
 use Rattle.recover.proofs.recover_image.Goals as goal
 use Rattle.recover.proofs.recover_image.Goals.{After-list_seen-table, After-see_again-last, Else-is_too_high}
 
@@ -53,7 +51,7 @@ low : (c : Else-is_too_high) →
     too_high (pages c.args.image.now) ≡ false
 low c =
     let scan_is : (whole_sectors c.args.image.now ≡ true) × (sectors_of c.args.image.now ≤ c.args.lent) × Holds c.list_seen-table.result (pages c.args.image.now) (frees c.args.image.now) =
-      ((sym c.is_whole.ensures ∙ c.if-not-is_whole.false), c.if-lent-sectors.false, c.list_seen-table.ensures c.args.image.now c.see_all-scanned.ensures)
+    ((sym c.is_whole.ensures ∙ c.if-not-is_whole.false), c.if-lent-sectors.false, c.list_seen-table.ensures c.args.image.now c.see_all-scanned.ensures)
     in
     ap too_high (sym (scan_is).2.list) ∙ sym c.is_too_high.ensures ∙ c.if-is_too_high.false
 

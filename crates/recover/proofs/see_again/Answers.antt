@@ -1,5 +1,4 @@
 -- `recover::see_again` meets its contract. Assumes nothing.
-use borrow.Author.Rules.{rules}
 use Rattle.recover.proofs.see_again.Goals as goal
 
 pub returns-then-left-allowance : goal.returns-then-left-allowance

@@ -2,20 +2,17 @@
 -- source stays as it was. Assumes nothing.
 use mathlib.Core.Path.{◌≡◌, refl, sym, ◌∙◌}
 use mathlib.Core.Bool.{true}
-use Prim.Native.Nat.{◌+◌, ◌-◌, ◌*◌, ◌≤◌}
+use Prim.Native.Nat.{◌+◌, ◌*◌, ◌≤◌}
 use native.Mathlib.Omega.{arith}
-use lib.ListN.{length}
 use Rattle.entry.specs.Fields.{entry_at, span_of}
 use Rattle.page.specs.declared.walk.Reading.TheVariants.{Item, Nothing}
-use Rattle.page.specs.Walk.{is_item, walk, reading_of}
+use Rattle.page.specs.Walk.{is_item, reading_of}
 use Rattle.page.proofs.Walking.{item_span, reading_none, reading_item, reading_span}
 use Rattle.flash.specs.Step.{sector}
-use Rattle.flash.specs.Did.{Goes}
 use Rattle.flash.proofs.Laws.{goes_start, goes_on, goes-stop, goes_end, goes_same}
 use Rattle.flash.proofs.Frame.{apart, did-sector}
 use Rattle.flash.proofs.Sectors.{lent-sector}
 use Rattle.item.proofs.Safe.{copying_in}
-use Rattle.relocate.specs.Move.{copies}
 use Rattle.relocate.proofs.Turns.{turn-span, turn_item, turn_skip, turn_end}
 use borrow.Author.Rules.{rules}
 use Rattle.relocate.proofs.copy_items.Goals as goal
@@ -57,7 +54,7 @@ copied-keeps c =
     let met : let t = sector c.args.s c.args.image.now in
     let n = c.in-Item.header.span in
     (is_item t c.loop-i.i ≡ true) × (n ≡ span_of (entry_at t c.loop-i.i)) × (1 ≤ n) × (c.loop-i.i + n ≤ 126) =
-      let a = c.args in
+    let a = c.args in
     let v = c.loop-i in
     let t = sector a.s a.image.now in
     let h = c.in-Item.header in

@@ -11,7 +11,6 @@ use Rattle.flash.proofs.Frame.{did-sector}
 use Rattle.item.specs.Initialise.{header, initialising}
 use Rattle.item.proofs.Safe.{initialising_in}
 use Rattle.relocate.specs.Move.{copies, moving}
-use borrow.Author.Rules.{rules}
 use Rattle.relocate.proofs.move_page.Goals as goal
 use Rattle.relocate.proofs.move_page.Goals.{After-initialise-r1, In-Done}
 
@@ -38,11 +37,11 @@ unfolding moving
 started c =
     let made : let a = c.args in
     Did (initialising a.target (header a.q) a.image.now) a.allowed a.image.now c.initialise-r1.new.image c.initialise-r1.result =
-      rw c.header_of-h.ensures at c.initialise-r1.ensures
+    rw c.header_of-h.ensures at c.initialise-r1.ensures
     in
     let kept : let a = c.args in
     sector a.s c.initialise-r1.new.image ≡ sector a.s a.image.now =
-      did-sector c.args.s c.args.target c.requires.3 (initialising_in c.args.target _ _) (made)
+    did-sector c.args.s c.args.target c.requires.3 (initialising_in c.args.target _ _) (made)
     in
     let a = c.args in
     goes_same (goes_on (goes_start _ _ _) refl (made) c.in-Done.is)

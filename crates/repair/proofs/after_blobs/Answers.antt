@@ -2,7 +2,6 @@
 use Rattle.table.specs.Table.{listed}
 use Rattle.repair.proofs.Repairing.{calm_last}
 use Rattle.repair.proofs.Counting.{marks-counted, stage-counted}
-use borrow.Author.Rules.{rules}
 use Rattle.repair.proofs.after_blobs.Goals as goal
 
 pub returns-then-is_calm : goal.returns-then-is_calm

@@ -4,8 +4,6 @@ use mathlib.Core.Bool.{false}
 use Prim.Native.Nat.{ℕ, ◌/◌}
 use native.Mathlib.Omega.{arith}
 use lib.Seq.{length-take-le}
-use borrow.Author.Rules.{rules}
-use borrow.Author.Tests.{not-true}
 use Rattle.flash.specs.Did.{Did}
 use Rattle.lists.specs.Lists.{some_of}
 use Rattle.table.specs.Table.{listed}

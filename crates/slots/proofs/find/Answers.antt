@@ -1,6 +1,5 @@
 -- `quick::find` meets its contract: what the search ends at is what the table leads to. Assumes nothing.
 use mathlib.Core.Path.{ap}
-use borrow.Author.Rules.{rules}
 use Rattle.found.specs.Places.{Placed}
 use Rattle.found.specs.Ranks.{rank_number}
 use Rattle.slots.specs.Slots.{told}

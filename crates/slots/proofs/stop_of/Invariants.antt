@@ -1,10 +1,7 @@
-use mathlib.Core.Path.{◌≡◌, sym, ap, ◌∙◌}
+use mathlib.Core.Path.{◌≡◌}
 use Prim.Native.Nat.{◌-◌, ◌<◌}
-use native.Mathlib.Omega.{arith}
-use borrow.Author.Rules.{rules}
 use Rattle.found.specs.Ranks.{rank_number}
 use Rattle.slots.specs.Slots.{stop, stop_of}
-use Rattle.slots.proofs.Looking.{stop_free, stop-hit, stop-miss, stop_end}
 use Rattle.slots.proofs.stop_of.Given as goal
 
 abbrev pub invariant-loop-n : goal.invariant-loop-n

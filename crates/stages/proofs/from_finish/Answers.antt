@@ -2,7 +2,6 @@
 use Rattle.table.specs.Table.{listed, freed}
 use Rattle.stages.proofs.Sequence.{finish-stop, finish_on_lem}
 use Rattle.repair.proofs.Counting.{stop-counted}
-use borrow.Author.Rules.{rules}
 use Rattle.stages.proofs.from_finish.Goals as goal
 
 pub returns-in_default : goal.returns-in_default

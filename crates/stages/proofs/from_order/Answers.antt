@@ -4,7 +4,6 @@ use Rattle.table.specs.Table.{pages}
 use Rattle.stages.proofs.Sequence.{order_stop, order_on_lem}
 use Rattle.stages.proofs.Listed.{held_placed, stage_1}
 use Rattle.repair.proofs.Counting.{stop-counted}
-use borrow.Author.Rules.{rules}
 use Rattle.stages.proofs.from_order.Goals as goal
 
 pub order_pages-r-requires : goal.order_pages-r-requires

@@ -4,7 +4,6 @@ use Rattle.finishing.specs.Finishing.{freeings}
 use Rattle.stages.proofs.Sequence.{all_stop, none_on, some_on}
 use Rattle.stages.proofs.Listed.{held_placed, stage_1, sequences_left}
 use Rattle.repair.proofs.Counting.{stop-counted}
-use borrow.Author.Rules.{rules}
 use Rattle.stages.proofs.make_stages.Goals as goal
 
 pub order_pages-r-requires : goal.order_pages-r-requires

@@ -4,9 +4,8 @@ use Rattle.table.proofs.Listing.{element, listed_end}
 use Rattle.lists.specs.Lists.{some_of}
 use Rattle.table.specs.Table.{active_page, listed}
 use mathlib.Core.Path.{◌≡◌, refl, sym, ap, ◌∙◌}
-use Prim.Native.Nat.{◌+◌, ◌-◌, ◌≤◌}
+use Prim.Native.Nat.{◌+◌}
 use native.Mathlib.Omega.{arith}
-use borrow.Author.Rules.{rules}
 use lib.ListN.{drop}
 use Rattle.table.proofs.any_active.Goals as goal
 

@@ -1,11 +1,7 @@
-use mathlib.Core.Bool.{Bool, true, cond}
-use Rattle.table.proofs.Listing.{element, listed_end}
 use Rattle.lists.specs.Lists.{some_of}
 use Rattle.table.specs.Table.{active_page, listed}
-use mathlib.Core.Path.{◌≡◌, refl, sym, ap, ◌∙◌}
-use Prim.Native.Nat.{◌+◌, ◌-◌, ◌≤◌}
-use native.Mathlib.Omega.{arith}
-use borrow.Author.Rules.{rules}
+use mathlib.Core.Path.{◌≡◌}
+use Prim.Native.Nat.{◌-◌, ◌≤◌}
 use lib.ListN.{drop}
 use Rattle.table.proofs.any_active.Given as goal
 

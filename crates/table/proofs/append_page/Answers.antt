@@ -4,7 +4,6 @@ use native.Mathlib.Omega.{arith}
 use native.Mathlib.Numerals.{add-one}
 use lib.ListN.{length-set}
 use lib.Seq.{take-suc-set}
-use borrow.Author.Rules.{rules}
 use Rattle.table.proofs.append_page.Goals as goal
 
 pub returns : goal.returns

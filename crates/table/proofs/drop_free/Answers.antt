@@ -2,7 +2,6 @@
 use Rattle.table.proofs.Out.{front_rest}
 use mathlib.Core.Path.{refl, sym}
 use native.Mathlib.Omega.{arith}
-use borrow.Author.Rules.{rules}
 use Rattle.table.proofs.drop_free.Goals as goal
 
 pub returns : goal.returns

@@ -1,18 +1,13 @@
 -- `table::first_in` meets its contract: the first page in the state is the first one from here on. Assumes nothing.
-use mathlib.Core.Bool.{Bool}
-use lib.Dec.{eqb}
 use borrow.Author.Tests.{eq-eqb, ne_eqb}
 use Rattle.lists.specs.Lists.{first_of}
-use Rattle.table.specs.declared.Page.{Page}
 use Rattle.table.specs.Table.{listed}
 use Rattle.table.specs.Sought.{sought_of, code_of}
 use Rattle.table.proofs.Seeking.{first_here, first_on}
 use Rattle.table.proofs.Listing.{element, listed_end}
-use mathlib.Core.Path.{◌≡◌, refl, sym, ap, ◌∙◌}
-use Prim.Native.Nat.{ℕ, ◌-◌, ◌≤◌}
+use mathlib.Core.Path.{refl, sym, ap, ◌∙◌}
+use Prim.Native.Nat.{ℕ}
 use native.Mathlib.Omega.{arith}
-use borrow.Author.Rules.{rules}
-use lib.ListN.{drop}
 use Rattle.table.proofs.first_in.Goals as goal
 use Rattle.table.proofs.first_in.Invariants.{coded}
 

@@ -1,16 +1,11 @@
 use mathlib.Core.Bool.{Bool}
 use lib.Dec.{eqb}
-use borrow.Author.Tests.{eq-eqb, ne_eqb}
 use Rattle.lists.specs.Lists.{first_of}
 use Rattle.table.specs.declared.Page.{Page}
 use Rattle.table.specs.Table.{listed}
-use Rattle.table.specs.Sought.{sought_of, code_of}
-use Rattle.table.proofs.Seeking.{first_here, first_on}
-use Rattle.table.proofs.Listing.{element, listed_end}
-use mathlib.Core.Path.{◌≡◌, refl, sym, ap, ◌∙◌}
+use Rattle.table.specs.Sought.{code_of}
+use mathlib.Core.Path.{◌≡◌}
 use Prim.Native.Nat.{ℕ, ◌-◌, ◌≤◌}
-use native.Mathlib.Omega.{arith}
-use borrow.Author.Rules.{rules}
 use lib.ListN.{drop}
 use Rattle.table.proofs.first_in.Given as goal
 

@@ -4,9 +4,8 @@ use Rattle.table.proofs.Listing.{element, listed_end}
 use Rattle.lists.specs.Lists.{greatest}
 use Rattle.table.specs.Table.{sequence, listed}
 use mathlib.Core.Path.{◌≡◌, sym, ap, ◌∙◌}
-use Prim.Native.Nat.{ℕ, ◌+◌, ◌-◌, ◌≤◌}
+use Prim.Native.Nat.{ℕ, ◌+◌, ◌-◌}
 use native.Mathlib.Omega.{arith}
-use borrow.Author.Rules.{rules}
 use lib.ListN.{drop}
 use Rattle.table.proofs.greatest_sequence.Goals as goal
 

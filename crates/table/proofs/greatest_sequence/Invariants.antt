@@ -1,11 +1,7 @@
-use Prim.Native.Nat.{max}
-use Rattle.table.proofs.Listing.{element, listed_end}
 use Rattle.lists.specs.Lists.{greatest}
 use Rattle.table.specs.Table.{sequence, listed}
-use mathlib.Core.Path.{◌≡◌, sym, ap, ◌∙◌}
-use Prim.Native.Nat.{ℕ, ◌+◌, ◌-◌, ◌≤◌}
-use native.Mathlib.Omega.{arith}
-use borrow.Author.Rules.{rules}
+use mathlib.Core.Path.{◌≡◌}
+use Prim.Native.Nat.{◌≤◌}
 use lib.ListN.{drop}
 use Rattle.table.proofs.greatest_sequence.Given as goal
 

@@ -4,7 +4,6 @@ use lib.ListN.{length-set}
 use lib.Seq.{take-suc-set}
 use mathlib.Core.Path.{refl}
 use native.Mathlib.Omega.{arith}
-use borrow.Author.Rules.{rules}
 use Rattle.table.proofs.join_free.Goals as goal
 
 pub returns : goal.returns

@@ -4,14 +4,12 @@ use Rattle.table.specs.declared.Page.{Page}
 use lib.Seq.{take-suc-set}
 use native.Mathlib.Numerals.{add-one}
 use lib.ListN.{length-set}
-use Rattle.table.specs.Table.{listed}
 use Rattle.table.proofs.Listing.{element, listed_end}
 use Rattle.table.proofs.Out.{carry_on}
 use mathlib.Core.Path.{◌≡◌, refl, sym, ap, ◌∙◌}
-use Prim.Native.Nat.{ℕ, ◌-◌, ◌<◌, ◌≤◌}
+use Prim.Native.Nat.{ℕ, ◌<◌}
 use native.Mathlib.Omega.{arith}
-use borrow.Author.Rules.{rules}
-use lib.ListN.{length, take, drop}
+use lib.ListN.{length, take}
 use Rattle.table.proofs.prepend_page.Goals as goal
 
 pub loop-i-init : goal.loop-i-init

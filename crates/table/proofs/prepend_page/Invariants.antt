@@ -1,15 +1,7 @@
-use mathlib.Core.List.{List, [], ◌∷◌, ◌++◌}
-use Rattle.table.specs.declared.Page.{Page}
-use lib.Seq.{take-suc-set}
-use native.Mathlib.Numerals.{add-one}
-use lib.ListN.{length-set}
+use mathlib.Core.List.{◌∷◌, ◌++◌}
 use Rattle.table.specs.Table.{listed}
-use Rattle.table.proofs.Listing.{element, listed_end}
-use Rattle.table.proofs.Out.{carry_on}
-use mathlib.Core.Path.{◌≡◌, refl, sym, ap, ◌∙◌}
-use Prim.Native.Nat.{ℕ, ◌-◌, ◌<◌, ◌≤◌}
-use native.Mathlib.Omega.{arith}
-use borrow.Author.Rules.{rules}
+use mathlib.Core.Path.{◌≡◌}
+use Prim.Native.Nat.{◌-◌, ◌≤◌}
 use lib.ListN.{length, take, drop}
 use Rattle.table.proofs.prepend_page.Given as goal
 

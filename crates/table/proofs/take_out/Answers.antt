@@ -1,14 +1,12 @@
 -- `table::take_out` meets its contract: the last is in the place of the first that passes, where none of those before does. Assumes nothing.
-use Rattle.lists.specs.Lists.{replace}
 use Rattle.table.specs.Table.{in_sector}
 use native.Mathlib.Nat.{le_of_lt}
 use lib.Seq.{lt-length-set, take-set-lt, length-take-le, get_or-take}
 use borrow.Author.Tests.{eq-eqb, ne_eqb}
-use Rattle.table.proofs.Out.{passed, passed-hit, passed_on, passed_end, out_none, out_last, out-other}
+use Rattle.table.proofs.Out.{passed-hit, passed_on, passed_end, out_none, out_last, out-other}
 use mathlib.Core.Path.{◌≡◌, refl, sym, ap, ◌∙◌}
-use Prim.Native.Nat.{◌-◌, ◌<◌, ◌≤◌}
+use Prim.Native.Nat.{◌-◌, ◌<◌}
 use native.Mathlib.Omega.{arith}
-use borrow.Author.Rules.{rules}
 use lib.ListN.{length, take, length-set}
 use Rattle.table.proofs.take_out.Goals as goal
 

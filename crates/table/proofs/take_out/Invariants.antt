@@ -1,14 +1,9 @@
 use Rattle.lists.specs.Lists.{replace}
 use Rattle.table.specs.Table.{in_sector}
-use native.Mathlib.Nat.{le_of_lt}
-use lib.Seq.{lt-length-set, take-set-lt, length-take-le, get_or-take}
-use borrow.Author.Tests.{eq-eqb, ne_eqb}
-use Rattle.table.proofs.Out.{passed, passed-hit, passed_on, passed_end, out_none, out_last, out-other}
-use mathlib.Core.Path.{◌≡◌, refl, sym, ap, ◌∙◌}
-use Prim.Native.Nat.{◌-◌, ◌<◌, ◌≤◌}
-use native.Mathlib.Omega.{arith}
-use borrow.Author.Rules.{rules}
-use lib.ListN.{length, take, length-set}
+use Rattle.table.proofs.Out.{passed}
+use mathlib.Core.Path.{◌≡◌}
+use Prim.Native.Nat.{◌-◌, ◌≤◌}
+use lib.ListN.{take}
 use Rattle.table.proofs.take_out.Given as goal
 
 abbrev pub invariant-loop-i : goal.invariant-loop-i

@@ -1,5 +1,4 @@
 -- `listing::put_field` meets its contract: each part goes behind the last. Assumes nothing.
-use borrow.Author.Rules.{rules}
 use Rattle.text.proofs.Putting.{put_both}
 use Rattle.text.proofs.put_field.Goals as goal
 

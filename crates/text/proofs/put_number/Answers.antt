@@ -1,5 +1,4 @@
 -- `listing::put_number` meets its contract: the digits of `io::decimal`. Assumes nothing.
-use borrow.Author.Rules.{rules}
 use mathlib.Core.Path.{◌∙◌}
 use Rattle.text.proofs.Putting.{put_as}
 use Rattle.text.proofs.Digits.{digits_are}

@@ -1,11 +1,10 @@
 -- `listing::put_text` meets its contract: each byte goes behind the last. Assumes nothing.
 use mathlib.Core.Path.{sym, ap, ◌∙◌}
-use Prim.Native.Nat.{ℕ, ◌-◌, ◌≤◌, ◌<◌}
+use Prim.Native.Nat.{ℕ, ◌<◌}
 use native.Mathlib.Numerals.{add-one}
 use lib.ListN.{length, take}
 use lib.Seq.{take_all, take-suc}
 use borrow.Author.Rules.{rules}
-use Rattle.text.specs.Text.{Put}
 use Rattle.text.proofs.Putting.{put-nothing, put_both, put_as}
 use Rattle.text.proofs.put_text.Goals as goal
 

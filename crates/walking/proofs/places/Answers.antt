@@ -2,7 +2,7 @@
 use mathlib.Core.Path.{◌≡◌, sym, ap, ◌∙◌}
 use mathlib.Core.Bool.{true, false}
 use mathlib.Core.List.{List, ◌++◌, append-nil}
-use Prim.Native.Nat.{ℕ, ◌+◌, ◌-◌, ◌*◌, ◌<◌, ◌≤◌}
+use Prim.Native.Nat.{ℕ, ◌+◌, ◌*◌, ◌<◌, ◌≤◌}
 use native.Mathlib.Omega.{arith}
 use borrow.Author.Rules.{rules}
 use lib.Dec.{lit<}
@@ -11,10 +11,9 @@ use Rattle.word.proofs.Bytes.{part-byte}
 use Rattle.entry.specs.Fields.{entry_at, span_of}
 use Rattle.page.specs.Walk.{is_item}
 use Rattle.page.specs.Unread.{unread_from}
-use Rattle.page.proofs.Tests.{not-true, not-false}
 use Rattle.page.proofs.Walking.{item_span}
 use Rattle.page.proofs.Unread.{unread-past, unread_item, unread_skip}
-use Rattle.page.proofs.Placing.{places_from, place_more, place_same, place_end}
+use Rattle.page.proofs.Placing.{place_more, place_same, place_end}
 use Rattle.walking.proofs.places.Goals as goal
 use Rattle.walking.proofs.places.Goals.{After-one_written-unread, After-size-i}
 

@@ -1,19 +1,9 @@
-use mathlib.Core.Path.{◌≡◌, sym, ap, ◌∙◌}
-use mathlib.Core.Bool.{true, false}
-use mathlib.Core.List.{List, ◌++◌, append-nil}
-use Prim.Native.Nat.{ℕ, ◌+◌, ◌-◌, ◌*◌, ◌<◌, ◌≤◌}
-use native.Mathlib.Omega.{arith}
-use borrow.Author.Rules.{rules}
-use lib.Dec.{lit<}
-use lib.ListN.{length, take, length-set}
-use Rattle.word.proofs.Bytes.{part-byte}
-use Rattle.entry.specs.Fields.{entry_at, span_of}
-use Rattle.page.specs.Walk.{is_item}
+use mathlib.Core.Path.{◌≡◌}
+use mathlib.Core.List.{◌++◌}
+use Prim.Native.Nat.{◌+◌, ◌-◌, ◌≤◌}
+use lib.ListN.{length, take}
 use Rattle.page.specs.Unread.{unread_from}
-use Rattle.page.proofs.Tests.{not-true, not-false}
-use Rattle.page.proofs.Walking.{item_span}
-use Rattle.page.proofs.Unread.{unread-past, unread_item, unread_skip}
-use Rattle.page.proofs.Placing.{places_from, place_more, place_same, place_end}
+use Rattle.page.proofs.Placing.{places_from}
 use Rattle.walking.proofs.places.Given as goal
 
 abbrev pub invariant-loop-i : goal.invariant-loop-i

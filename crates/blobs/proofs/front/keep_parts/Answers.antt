@@ -1,11 +1,9 @@
 -- `blobs::keep_parts` meets its contract: the parts passed stand in front, and those to come where they stood. Assumes nothing.
 use mathlib.Core.Path.{◌≡◌, refl, sym, ap, ◌∙◌}
 use mathlib.Core.Bool.{Bool}
-use Prim.Native.Nat.{ℕ, ◌-◌, ◌≤◌}
+use Prim.Native.Nat.{ℕ}
 use native.Mathlib.Omega.{arith}
-use lib.ListN.{length, take, drop, get_or, length-set}
-use borrow.Author.Rules.{rules}
-use borrow.Author.Tests.{not-true, not-false}
+use lib.ListN.{take, get_or, length-set}
 use Rattle.lists.specs.Lists.{keep}
 use Rattle.found.specs.Found.{is_part}
 use Rattle.found.specs.Places.{item_at, Placed}

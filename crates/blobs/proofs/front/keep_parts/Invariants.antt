@@ -1,15 +1,9 @@
-use mathlib.Core.Path.{◌≡◌, refl, sym, ap, ◌∙◌}
-use mathlib.Core.Bool.{Bool}
+use mathlib.Core.Path.{◌≡◌}
 use Prim.Native.Nat.{ℕ, ◌-◌, ◌≤◌}
-use native.Mathlib.Omega.{arith}
-use lib.ListN.{length, take, drop, get_or, length-set}
-use borrow.Author.Rules.{rules}
-use borrow.Author.Tests.{not-true, not-false}
+use lib.ListN.{length, take, drop}
 use Rattle.lists.specs.Lists.{keep}
 use Rattle.found.specs.Found.{is_part}
-use Rattle.found.specs.Places.{item_at, Placed}
-use Rattle.lists.proofs.Each.{each-front}
-use Rattle.blobs.proofs.Fronts.{read, rest-past, front-past, rest_put, front-put}
+use Rattle.found.specs.Places.{item_at}
 use Rattle.blobs.proofs.front.keep_parts.Given as goal
 
 abbrev pub invariant-loop-i : goal.invariant-loop-i

@@ -1,10 +1,9 @@
 -- `blobs::any_part` meets its contract: whether there is one is whether there is one from here on. Assumes nothing.
-use mathlib.Core.Path.{◌≡◌, sym, ap, ◌∙◌}
+use mathlib.Core.Path.{sym, ap, ◌∙◌}
 use mathlib.Core.Bool.{Bool, true, cond}
-use Prim.Native.Nat.{ℕ, ◌+◌, ◌-◌, ◌≤◌}
+use Prim.Native.Nat.{ℕ, ◌+◌}
 use native.Mathlib.Omega.{arith}
-use lib.ListN.{length, drop}
-use borrow.Author.Rules.{rules}
+use lib.ListN.{drop}
 use Rattle.lists.specs.Lists.{some_of}
 use Rattle.found.specs.Places.{item_at, items_at, Placed}
 use Rattle.found.specs.Found.{Found, is_part}

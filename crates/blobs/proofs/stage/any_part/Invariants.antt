@@ -1,14 +1,9 @@
-use mathlib.Core.Path.{◌≡◌, sym, ap, ◌∙◌}
-use mathlib.Core.Bool.{Bool, true, cond}
-use Prim.Native.Nat.{ℕ, ◌+◌, ◌-◌, ◌≤◌}
-use native.Mathlib.Omega.{arith}
+use mathlib.Core.Path.{◌≡◌}
+use Prim.Native.Nat.{◌-◌, ◌≤◌}
 use lib.ListN.{length, drop}
-use borrow.Author.Rules.{rules}
 use Rattle.lists.specs.Lists.{some_of}
-use Rattle.found.specs.Places.{item_at, items_at, Placed}
+use Rattle.found.specs.Places.{items_at}
 use Rattle.found.specs.Found.{Found, is_part}
-use Rattle.found.proofs.Reading.{items_more, items_end}
-use Rattle.lists.proofs.Each.{each_at}
 use Rattle.blobs.proofs.stage.any_part.Given as goal
 
 abbrev pub invariant-loop-i : goal.invariant-loop-i

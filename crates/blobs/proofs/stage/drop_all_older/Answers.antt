@@ -1,18 +1,14 @@
 -- `blobs::drop_all_older` meets its contract: run by run the older of a group goes. Assumes nothing.
 use mathlib.Core.Path.{◌≡◌, ap, ap₂, ◌∙◌}
-use mathlib.Core.List.{flat_map}
 use Prim.Native.Nat.{ℕ, ◌-◌}
 use native.Mathlib.Omega.{arith}
-use lib.ListN.{length, take, drop}
-use borrow.Author.Rules.{rules}
-use Rattle.flash.specs.Did.{Goes}
+use lib.ListN.{take, drop}
 use Rattle.flash.proofs.Laws.{goes_start, goes_on, goes-stop, goes_end}
-use Rattle.found.specs.Places.{item_at, items_at, Placed, Alike}
+use Rattle.found.specs.Places.{item_at, items_at, Placed}
 use Rattle.found.specs.Ranks.{rank_number}
 use Rattle.found.proofs.Alike.{alike_refl, alike_trans}
 use Rattle.lists.proofs.Each.{each_at}
 use Rattle.sort.specs.Rank.{group_by}
-use Rattle.lists.specs.Runs.{runs}
 use Rattle.versions.specs.Versions.{older}
 use Rattle.blobs.specs.Runs.{older_steps}
 use Rattle.blobs.proofs.Passes.{gathered_still, gathered_run, items-run, pass_left, first_group, pass_end}

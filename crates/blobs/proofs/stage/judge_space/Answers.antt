@@ -1,7 +1,6 @@
 -- `blobs::judge_space` meets its contract: start 0 comes before start 0x80. Assumes nothing.
 use mathlib.Core.Path.{refl}
 use lib.Dec.{lit<}
-use borrow.Author.Rules.{rules}
 use Rattle.flash.proofs.Laws.{goes_start, goes_on, goes-stop, goes_last}
 use Rattle.found.proofs.Alike.{alike_trans, each-alike, items_alike}
 use Rattle.blobs.specs.Runs.{space_steps}

@@ -5,7 +5,6 @@ use Prim.Native.Nat.{ℕ, ◌<◌}
 use native.Mathlib.Omega.{arith}
 use lib.ListN.{take, get_or}
 use lib.Seq.{length-take-le}
-use borrow.Author.Rules.{rules}
 use Rattle.flash.specs.Step.{Step}
 use Rattle.lists.specs.Lists.{keep, sort_by}
 use Rattle.lists.proofs.Search.{keep_in}

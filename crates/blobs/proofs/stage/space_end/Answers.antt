@@ -1,14 +1,13 @@
 -- `blobs::space_end` meets its contract: the places passed are of one namespace. Assumes nothing.
 use mathlib.Core.Path.{◌≡◌, sym, ap, ◌∙◌}
-use Prim.Native.Nat.{ℕ, ◌-◌, ◌≤◌, ◌<◌}
+use Prim.Native.Nat.{ℕ}
 use native.Mathlib.Omega.{arith}
-use lib.ListN.{length, get_or}
-use borrow.Author.Rules.{rules}
+use lib.ListN.{get_or}
 use Rattle.lists.proofs.Member.{nil≢}
 use Rattle.found.specs.Places.{item_at, Placed}
 use Rattle.lists.proofs.Each.{each_at}
 use Rattle.found.proofs.Reading.{items_more, items_end}
-use Rattle.sort.proofs.Ending.{Same, same_one, same_more, ends_here}
+use Rattle.sort.proofs.Ending.{same_one, same_more, ends_here}
 use Rattle.blobs.specs.Runs.{space_by}
 use Rattle.blobs.proofs.stage.space_end.Goals as goal
 use Rattle.blobs.proofs.stage.space_end.Goals.{After-namespace_at}

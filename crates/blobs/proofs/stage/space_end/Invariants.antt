@@ -1,13 +1,8 @@
-use mathlib.Core.Path.{◌≡◌, sym, ap, ◌∙◌}
-use Prim.Native.Nat.{ℕ, ◌-◌, ◌≤◌, ◌<◌}
-use native.Mathlib.Omega.{arith}
+use mathlib.Core.Path.{◌≡◌}
+use Prim.Native.Nat.{◌-◌, ◌≤◌, ◌<◌}
 use lib.ListN.{length, get_or}
-use borrow.Author.Rules.{rules}
-use Rattle.lists.proofs.Member.{nil≢}
-use Rattle.found.specs.Places.{item_at, Placed}
-use Rattle.lists.proofs.Each.{each_at}
-use Rattle.found.proofs.Reading.{items_more, items_end}
-use Rattle.sort.proofs.Ending.{Same, same_one, same_more, ends_here}
+use Rattle.found.specs.Places.{item_at}
+use Rattle.sort.proofs.Ending.{Same}
 use Rattle.blobs.specs.Runs.{space_by}
 use Rattle.blobs.proofs.stage.space_end.Given as goal
 

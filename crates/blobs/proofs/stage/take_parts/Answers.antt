@@ -1,6 +1,5 @@
 -- `blobs::take_parts` meets its contract: "the older-of-two after all others". Assumes nothing.
 use mathlib.Core.Path.{refl}
-use borrow.Author.Rules.{rules}
 use Rattle.flash.proofs.Laws.{goes_start, goes_on, goes-stop, goes_last}
 use Rattle.found.proofs.Alike.{alike_trans, each-alike, items_alike}
 use Rattle.blobs.proofs.stage.take_parts.Goals as goal

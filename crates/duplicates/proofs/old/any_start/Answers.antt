@@ -1,10 +1,9 @@
 -- `duplicates::any_start` meets its contract: there is none from here on. Assumes nothing.
 use mathlib.Core.Path.{◌≡◌, sym, ap, ◌∙◌}
 use mathlib.Core.Bool.{false}
-use Prim.Native.Nat.{ℕ, ◌-◌, ◌≤◌}
+use Prim.Native.Nat.{ℕ, ◌-◌}
 use native.Mathlib.Omega.{arith}
-use lib.ListN.{length, drop, get_or}
-use borrow.Author.Rules.{rules}
+use lib.ListN.{length, get_or}
 use Rattle.lists.specs.Lists.{some_of}
 use Rattle.lists.proofs.Search.{some_is}
 use Rattle.found.specs.Places.{item_at, items_at, Placed}

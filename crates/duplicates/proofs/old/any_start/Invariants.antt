@@ -1,17 +1,11 @@
-use mathlib.Core.Path.{◌≡◌, sym, ap, ◌∙◌}
+use mathlib.Core.Path.{◌≡◌}
 use mathlib.Core.Bool.{false}
-use Prim.Native.Nat.{ℕ, ◌-◌, ◌≤◌}
-use native.Mathlib.Omega.{arith}
-use lib.ListN.{length, drop, get_or}
-use borrow.Author.Rules.{rules}
+use Prim.Native.Nat.{◌≤◌}
+use lib.ListN.{length, drop}
 use Rattle.lists.specs.Lists.{some_of}
-use Rattle.lists.proofs.Search.{some_is}
-use Rattle.found.specs.Places.{item_at, items_at, Placed}
+use Rattle.found.specs.Places.{items_at}
 use Rattle.found.specs.Found.{Found}
-use Rattle.found.proofs.Reading.{items_end}
-use Rattle.lists.proofs.Each.{each_at}
 use Rattle.duplicates.specs.Turns.{index_from}
-use Rattle.duplicates.proofs.Back.{item_in, some_past}
 use Rattle.duplicates.proofs.old.any_start.Given as goal
 
 abbrev pub invariant-loop-i : goal.invariant-loop-i

@@ -4,7 +4,6 @@ use Prim.Native.Nat.{◌-◌}
 use native.Mathlib.Omega.{arith}
 use lib.ListN.{length, take, get_or}
 use lib.Seq.{length-take-le}
-use borrow.Author.Rules.{rules}
 use Rattle.flash.proofs.Laws.{goes_start, goes_on, goes-stop, goes_same, goes_end, goes_last}
 use Rattle.found.specs.Places.{item_at, items_at, Placed}
 use Rattle.found.proofs.Alike.{alike_trans, placed_alike, item_alike, each-alike, items_alike}
@@ -52,10 +51,10 @@ told : (c : After-takes_chunks) →
     c.takes_chunks.result ≡ takes_chunks (items_at l (take a.i a.sorted.now)) (item_at l (last_at a.sorted.now)) (item_at l (get_or a.sorted.now a.i 0))
 told c =
     let old_placed : Placed c.args.image.now (get_or c.args.sorted.now c.args.i 0) =
-      each_at (Placed c.args.image.now) c.args.sorted.now 0 c.requires.1 c.args.i c.requires.2
+    each_at (Placed c.args.image.now) c.args.sorted.now 0 c.requires.1 c.args.i c.requires.2
     in
     let kept_placed : Placed c.args.image.now (last_at c.args.sorted.now) =
-      each_at (Placed c.args.image.now) c.args.sorted.now 0 c.requires.1 (length c.args.sorted.now - 1) (omega (arith, c.requires.2))
+    each_at (Placed c.args.image.now) c.args.sorted.now 0 c.requires.1 (length c.args.sorted.now - 1) (omega (arith, c.requires.2))
     in
     let like = c.erase_at-r.ensures.1 in
     let before = items_alike _ _ like _ (each_take (Placed c.args.image.now) c.args.i c.args.sorted.now c.requires.1) in

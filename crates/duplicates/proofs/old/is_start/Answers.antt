@@ -2,7 +2,6 @@
 use mathlib.Core.Path.{sym, ap, ◌∙◌}
 use Prim.Native.Nat.{ℕ}
 use lib.Dec.{eqb}
-use borrow.Author.Rules.{rules}
 use Rattle.duplicates.proofs.old.is_start.Goals as goal
 
 pub returns-then-is_index : goal.returns-then-is_index

@@ -1,12 +1,10 @@
 -- `duplicates::count_chunks` meets its contract: the chunks from here on are counted. Assumes nothing.
 use mathlib.Core.Path.{◌≡◌, sym, ap, ◌∙◌}
-use Prim.Native.Nat.{ℕ, ◌+◌, ◌-◌, ◌≤◌}
+use Prim.Native.Nat.{ℕ, ◌-◌, ◌≤◌}
 use native.Mathlib.Omega.{arith}
-use lib.ListN.{length, drop, get_or}
-use borrow.Author.Rules.{rules}
-use borrow.Author.Tests.{not-true, not-false}
+use lib.ListN.{length, get_or}
 use Rattle.lists.specs.Lists.{keep}
-use Rattle.found.specs.Places.{item_at, items_at, Placed}
+use Rattle.found.specs.Places.{item_at, Placed}
 use Rattle.found.specs.Found.{Found, is_chunk}
 use Rattle.found.proofs.Reading.{items_end}
 use Rattle.lists.proofs.Each.{each_at}

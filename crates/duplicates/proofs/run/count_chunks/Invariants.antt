@@ -1,15 +1,9 @@
-use mathlib.Core.Path.{◌≡◌, sym, ap, ◌∙◌}
-use Prim.Native.Nat.{ℕ, ◌+◌, ◌-◌, ◌≤◌}
-use native.Mathlib.Omega.{arith}
-use lib.ListN.{length, drop, get_or}
-use borrow.Author.Rules.{rules}
-use borrow.Author.Tests.{not-true, not-false}
+use mathlib.Core.Path.{◌≡◌}
+use Prim.Native.Nat.{◌+◌, ◌≤◌}
+use lib.ListN.{length, drop}
 use Rattle.lists.specs.Lists.{keep}
-use Rattle.found.specs.Places.{item_at, items_at, Placed}
+use Rattle.found.specs.Places.{items_at}
 use Rattle.found.specs.Found.{Found, is_chunk}
-use Rattle.found.proofs.Reading.{items_end}
-use Rattle.lists.proofs.Each.{each_at}
-use Rattle.duplicates.proofs.Back.{keep_more, keep-past}
 use Rattle.duplicates.proofs.run.count_chunks.Given as goal
 
 abbrev pub invariant-loop-i : goal.invariant-loop-i

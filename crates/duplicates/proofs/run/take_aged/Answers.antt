@@ -1,7 +1,6 @@
 -- `duplicates::take_aged` meets its contract: behind the chunks stand the others, oldest first. Assumes nothing.
 use mathlib.Core.Path.{◌≡◌, sym}
 use lib.ListN.{drop}
-use borrow.Author.Rules.{rules}
 use Rattle.found.specs.Places.{item_at, items_at, Placed}
 use Rattle.lists.proofs.Each.{each-drop}
 use Rattle.lists.proofs.Parts.{drop-map}

@@ -1,11 +1,9 @@
 -- `duplicates::take_run` meets its contract: of one item, and of namespace 0, nothing goes; else the run is sorted by age. Assumes nothing.
-use denote.Slice.{shr_slice_at}
 use mathlib.Core.Path.{◌≡◌, refl, sym, ◌∙◌}
 use Prim.Native.Nat.{ℕ, ◌≤◌, ◌<◌}
 use native.Mathlib.Omega.{arith}
 use lib.ListN.{take, get_or, length-map, length-take}
 use lib.Seq.{length-take-le}
-use borrow.Author.Rules.{rules}
 use Rattle.flash.proofs.Laws.{did_none}
 use Rattle.entry.specs.Fields.{namespace_of}
 use Rattle.lists.specs.Lists.{sort_by}

@@ -2,7 +2,6 @@
 use mathlib.Core.Path.{sym}
 use lib.Dec.{lit<}
 use Rattle.word.proofs.Bytes.{part-byte}
-use borrow.Author.Rules.{rules}
 use Rattle.entry.proofs.fields.index_count.Goals as goal
 
 pub returns : goal.returns

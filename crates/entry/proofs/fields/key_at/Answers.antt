@@ -2,7 +2,6 @@
 use lib.Dec.{lit≤}
 use Rattle.word.proofs.Bytes.{be-part}
 use Rattle.entry.specs.Fields.{key_of}
-use borrow.Author.Rules.{rules}
 use Rattle.entry.proofs.fields.key_at.Goals as goal
 
 pub returns : goal.returns

@@ -11,7 +11,6 @@ use Rattle.entry.specs.Ones.{masked}
 use Rattle.entry.proofs.Counting.{count-le}
 use Rattle.entry.proofs.Masked.{pairs_below}
 use Rattle.entry.proofs.Words.{total}
-use borrow.Author.Rules.{rules}
 use Rattle.entry.proofs.states.totals_of.Goals as goal
 
 -- what the four words tell of a state, and that it is a byte

@@ -5,13 +5,11 @@ use Rattle.entry.specs.Fields.{entry_at, span_of}
 use Rattle.page.specs.declared.walk.Reading.TheVariants.{Item, Nothing}
 use Rattle.page.specs.Walk.{is_item, walk, reading_of}
 use Rattle.page.proofs.Walking.{item_span, reading_none, reading_item, reading_span}
-use borrow.Author.Tests.{not-true, not-false}
-use Rattle.finish.specs.Alike.{some_like, all_like}
+use Rattle.finish.specs.Alike.{some_like}
 use Rattle.finish.proofs.Likeness.{lent-entry, all_not, all_on, all_skip, all_end}
 use mathlib.Core.Path.{◌≡◌, refl, sym, ap, ◌∙◌}
-use Prim.Native.Nat.{ℕ, ◌+◌, ◌-◌, ◌≤◌}
+use Prim.Native.Nat.{ℕ, ◌+◌, ◌≤◌}
 use native.Mathlib.Omega.{arith}
-use borrow.Author.Rules.{rules}
 use Rattle.finish.proofs.judge.all_like.Goals as goal
 use Rattle.finish.proofs.judge.all_like.Goals.{After-some_like, In-Item}
 

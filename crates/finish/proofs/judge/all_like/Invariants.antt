@@ -1,16 +1,7 @@
-use mathlib.Core.Bool.{true}
-use mathlib.Core.List.{List}
-use Rattle.entry.specs.Fields.{entry_at, span_of}
-use Rattle.page.specs.declared.walk.Reading.TheVariants.{Item, Nothing}
-use Rattle.page.specs.Walk.{is_item, walk, reading_of}
-use Rattle.page.proofs.Walking.{item_span, reading_none, reading_item, reading_span}
-use borrow.Author.Tests.{not-true, not-false}
-use Rattle.finish.specs.Alike.{some_like, all_like}
-use Rattle.finish.proofs.Likeness.{lent-entry, all_not, all_on, all_skip, all_end}
-use mathlib.Core.Path.{◌≡◌, refl, sym, ap, ◌∙◌}
-use Prim.Native.Nat.{ℕ, ◌+◌, ◌-◌, ◌≤◌}
-use native.Mathlib.Omega.{arith}
-use borrow.Author.Rules.{rules}
+use Rattle.page.specs.Walk.{walk}
+use Rattle.finish.specs.Alike.{all_like}
+use mathlib.Core.Path.{◌≡◌}
+use Prim.Native.Nat.{◌-◌, ◌≤◌}
 use Rattle.finish.proofs.judge.all_like.Given as goal
 
 abbrev pub invariant-loop-i : goal.invariant-loop-i

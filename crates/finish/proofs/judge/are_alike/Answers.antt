@@ -1,6 +1,5 @@
 -- `finish::are_alike` meets its contract: each arm is its comparison. Assumes nothing.
 use Rattle.finish.specs.Alike.{alike_by}
-use borrow.Author.Rules.{rules}
 use Rattle.finish.proofs.judge.are_alike.Goals as goal
 
 pub returns-in-Header : goal.returns-in-Header

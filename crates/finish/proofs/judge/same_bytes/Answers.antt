@@ -2,11 +2,10 @@
 use lib.ListN.{drop_of_length-le}
 use Rattle.finish.specs.Finish.{same_bytes}
 use Rattle.finish.proofs.Likeness.{bytes_same, bytes_differ}
-use mathlib.Core.Path.{◌≡◌, refl, sym, ◌∙◌}
-use Prim.Native.Nat.{◌-◌, ◌≤◌}
+use mathlib.Core.Path.{refl, sym, ◌∙◌}
+use Prim.Native.Nat.{◌≤◌}
 use native.Mathlib.Omega.{arith}
-use borrow.Author.Rules.{rules}
-use lib.ListN.{length, drop}
+use lib.ListN.{length}
 use Rattle.finish.proofs.judge.same_bytes.Goals as goal
 
 pub loop-i-init : goal.loop-i-init

@@ -1,10 +1,6 @@
-use lib.ListN.{drop_of_length-le}
 use Rattle.finish.specs.Finish.{same_bytes}
-use Rattle.finish.proofs.Likeness.{bytes_same, bytes_differ}
-use mathlib.Core.Path.{◌≡◌, refl, sym, ◌∙◌}
+use mathlib.Core.Path.{◌≡◌}
 use Prim.Native.Nat.{◌-◌, ◌≤◌}
-use native.Mathlib.Omega.{arith}
-use borrow.Author.Rules.{rules}
 use lib.ListN.{length, drop}
 use Rattle.finish.proofs.judge.same_bytes.Given as goal
 

@@ -1,7 +1,6 @@
 -- `finish::same_name` meets its contract: the first test that fails decides. Assumes nothing.
 use borrow.Author.Tests.{eq-eqb, ne_eqb}
 use Rattle.finish.specs.Finish.{same_bytes, name_of}
-use borrow.Author.Rules.{rules}
 use Rattle.finish.proofs.judge.same_name.Goals as goal
 
 pub returns-then-a-b : goal.returns-then-a-b

@@ -1,14 +1,7 @@
-use mathlib.Core.Bool.{true}
-use Rattle.entry.specs.Fields.{entry_at, span_of}
-use Rattle.page.specs.declared.walk.Reading.TheVariants.{Item, Nothing}
-use Rattle.page.specs.Walk.{is_item, walk, reading_of}
-use Rattle.page.proofs.Walking.{item_span, reading_none, reading_item, reading_span}
-use Rattle.finish.specs.Alike.{alike_by, some_like}
-use Rattle.finish.proofs.Likeness.{lent-entry, some_here, some_on, some_skip, some_end}
-use mathlib.Core.Path.{◌≡◌, refl, sym, ap, ◌∙◌}
-use Prim.Native.Nat.{◌+◌, ◌-◌, ◌≤◌}
-use native.Mathlib.Omega.{arith}
-use borrow.Author.Rules.{rules}
+use Rattle.page.specs.Walk.{walk}
+use Rattle.finish.specs.Alike.{some_like}
+use mathlib.Core.Path.{◌≡◌}
+use Prim.Native.Nat.{◌-◌, ◌≤◌}
 use Rattle.finish.proofs.judge.some_like.Given as goal
 
 abbrev pub invariant-loop-i : goal.invariant-loop-i

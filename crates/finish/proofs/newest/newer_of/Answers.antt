@@ -1,6 +1,5 @@
 -- `finish::newer_of` meets its contract: each test that led to a return decides the definition's. Assumes nothing.
 use borrow.Author.Tests.{le-leb, lt-leb}
-use borrow.Author.Rules.{rules}
 use Rattle.finish.proofs.newest.newer_of.Goals as goal
 
 pub returns-in_default : goal.returns-in_default

@@ -8,7 +8,6 @@ use Rattle.table.proofs.Seeking.{sought_found, sought_nothing}
 use Rattle.table.proofs.Places.{page-fits}
 use Rattle.finish.specs.Finish.{no_older_page, newest, newest_holds}
 use Rattle.finish.proofs.Likeness.{holds_is}
-use borrow.Author.Rules.{rules}
 use Rattle.finish.proofs.newest.newest_holds.Goals as goal
 use Rattle.finish.proofs.newest.newest_holds.Goals.{In-One}
 

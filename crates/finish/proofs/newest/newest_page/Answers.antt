@@ -8,9 +8,8 @@ use Rattle.table.proofs.Listing.{element, listed_end}
 use Rattle.table.proofs.Seeking.{best_more}
 use Rattle.finish.specs.Finish.{no_older_page, newest}
 use mathlib.Core.Path.{◌≡◌, sym, ap, ◌∙◌}
-use Prim.Native.Nat.{ℕ, ◌+◌, ◌-◌, ◌≤◌}
+use Prim.Native.Nat.{ℕ, ◌+◌, ◌-◌}
 use native.Mathlib.Omega.{arith}
-use borrow.Author.Rules.{rules}
 use lib.ListN.{drop}
 use Rattle.finish.proofs.newest.newest_page.Goals as goal
 

@@ -1,15 +1,9 @@
-use mathlib.Core.List.{List}
 use Rattle.lists.specs.Lists.{best as bestOf}
-use Rattle.table.specs.declared.Page.{Page}
 use Rattle.table.specs.Table.{listed}
-use Rattle.table.specs.Sought.{sought_of, better_of}
-use Rattle.table.proofs.Listing.{element, listed_end}
-use Rattle.table.proofs.Seeking.{best_more}
-use Rattle.finish.specs.Finish.{no_older_page, newest}
-use mathlib.Core.Path.{◌≡◌, sym, ap, ◌∙◌}
-use Prim.Native.Nat.{ℕ, ◌+◌, ◌-◌, ◌≤◌}
-use native.Mathlib.Omega.{arith}
-use borrow.Author.Rules.{rules}
+use Rattle.table.specs.Sought.{sought_of}
+use Rattle.finish.specs.Finish.{no_older_page}
+use mathlib.Core.Path.{◌≡◌}
+use Prim.Native.Nat.{◌≤◌}
 use lib.ListN.{drop}
 use Rattle.finish.proofs.newest.newest_page.Given as goal
 

@@ -7,7 +7,6 @@ use Rattle.table.proofs.Places.{page-fits}
 use Rattle.finish.specs.Finish.{copy_of, round_with}
 use Rattle.finish.proofs.Likeness.{copy_is}
 use mathlib.Core.Path.{◌≡◌, refl, sym, ◌∙◌}
-use borrow.Author.Rules.{rules}
 use Rattle.finish.proofs.rounds.beside_active.Goals as goal
 
 pub matches-requires : goal.matches-requires

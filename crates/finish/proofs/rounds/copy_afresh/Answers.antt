@@ -19,7 +19,6 @@ use mathlib.Core.Path.{◌≡◌, refl, ap, ◌∙◌}
 use Prim.Native.Nat.{ℕ, ◌+◌, ◌*◌, ◌-◌, ◌<◌, ◌≤◌}
 use native.Mathlib.Omega.{arith}
 use lib.ListN.{length, take, get_or}
-use borrow.Author.Rules.{rules}
 use Rattle.finish.proofs.rounds.copy_afresh.Goals as goal
 use Rattle.finish.proofs.rounds.copy_afresh.Goals.{After-move_page-ran, Else-n-eq0, Start}
 

@@ -13,7 +13,6 @@ use mathlib.Core.Path.{◌≡◌, refl, ap, ◌∙◌}
 use Prim.Native.Nat.{ℕ}
 use native.Mathlib.Omega.{arith}
 use lib.ListN.{length}
-use borrow.Author.Rules.{rules}
 use Rattle.finish.proofs.rounds.erase_copy.Goals as goal
 use Rattle.finish.proofs.rounds.erase_copy.Goals.{Start}
 

@@ -10,7 +10,6 @@ use Rattle.table.proofs.Seeking.{first_member, first_same, active_is, sought_fou
 use Rattle.table.proofs.Places.{apart_placed}
 use Rattle.finish.specs.Finish.{round}
 use Rattle.finish.proofs.Makes.{next-below}
-use borrow.Author.Rules.{rules}
 use Rattle.finish.proofs.rounds.round.Goals as goal
 use Rattle.finish.proofs.rounds.round.Goals.{Start}
 
@@ -20,8 +19,7 @@ source_in c = first_member freeing_page (listed c.args.table) c.args.x c.require
 
 pub without_active-requires : goal.without_active-requires
 without_active-requires c =
-    let o = c.take_out-rest.ensures.0 in
-    (
+    let o = c.take_out-rest.ensures.0 in (
       c.requires.0,
       o.sized,
       rw (o.list, o.free) (apart_placed c.args.x c.requires.2 (source_in (goal.at.without_active-requires c).Start)),
@@ -39,8 +37,7 @@ returns-in_default c =
 
 pub beside_active-requires : goal.beside_active-requires
 beside_active-requires c =
-    let o = c.take_out-rest.ensures.0 in
-    (
+    let o = c.take_out-rest.ensures.0 in (
       c.requires.0,
       o.sized,
       rw (o.list, o.free) (apart_placed c.args.x c.requires.2 (source_in (goal.at.beside_active-requires c).Start)),

@@ -7,7 +7,6 @@ use Rattle.table.specs.Table.{listed}
 use Rattle.table.proofs.Held.{held_free, holds-own}
 use Rattle.table.proofs.Places.{page-fits, rest_placed}
 use Rattle.finish.specs.Finish.{newest, newest_holds, round_with}
-use borrow.Author.Rules.{rules}
 use Rattle.finish.proofs.rounds.without_active.Goals as goal
 
 pub newest_holds-requires : goal.newest_holds-requires

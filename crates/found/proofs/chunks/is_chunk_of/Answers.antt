@@ -2,7 +2,6 @@
 use mathlib.Core.Path.{sym, ap, ◌∙◌}
 use Prim.Native.Nat.{ℕ}
 use lib.Dec.{eqb}
-use borrow.Author.Rules.{rules}
 use Rattle.found.specs.Ranks.{rank_number}
 use Rattle.found.proofs.chunks.is_chunk_of.Goals as goal
 

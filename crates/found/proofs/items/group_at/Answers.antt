@@ -1,6 +1,5 @@
 -- `found::group_at` meets its contract: the namespace in front, then the key. Assumes nothing.
 use native.Mathlib.Omega.{arith}
-use borrow.Author.Rules.{rules}
 use Rattle.found.specs.Found.{group_of}
 use Rattle.found.proofs.Reading.{key_here}
 use Rattle.found.proofs.items.group_at.Goals as goal

@@ -2,7 +2,6 @@
 use mathlib.Core.Path.{sym, ap, ◌∙◌}
 use Prim.Native.Nat.{ℕ}
 use native.Mathlib.Omega.{arith}
-use borrow.Author.Rules.{rules}
 use Rattle.entry.specs.Kinds.{kind_of}
 use Rattle.found.specs.Found.{index_kind}
 use Rattle.found.proofs.Reading.{byte_at}

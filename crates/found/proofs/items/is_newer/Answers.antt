@@ -1,7 +1,6 @@
 -- `found::is_newer` meets its contract: the sequences decide, and among equals the entries. Assumes nothing.
 use mathlib.Core.Path.{◌≡◌, sym, ◌∙◌}
 use borrow.Author.Tests.{eq-eqb, ne_eqb}
-use borrow.Author.Rules.{rules}
 use Rattle.found.specs.Found.{newer}
 use Rattle.found.proofs.Reading.{entry_order}
 use Rattle.found.proofs.items.is_newer.Goals as goal

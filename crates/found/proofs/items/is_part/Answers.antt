@@ -1,6 +1,5 @@
 -- `found::is_part` meets its contract: an item is a chunk, or it is an index or none. Assumes nothing.
 use mathlib.Core.Path.{sym, ◌∙◌}
-use borrow.Author.Rules.{rules}
 use Rattle.found.proofs.items.is_part.Goals as goal
 
 pub returns-then-is_chunk : goal.returns-then-is_chunk

@@ -1,6 +1,5 @@
 -- `found::number_at` meets its contract: the chunk index stands at its place. Assumes nothing.
 use native.Mathlib.Omega.{arith}
-use borrow.Author.Rules.{rules}
 use Rattle.found.proofs.Reading.{byte_at}
 use Rattle.found.proofs.items.number_at.Goals as goal
 

@@ -1,7 +1,6 @@
 -- `found::start_at` meets its contract: a chunk is judged by its chunk index, an index by its chunk start. Assumes nothing.
 use mathlib.Core.Path.{sym, ap, ◌∙◌}
 use native.Mathlib.Omega.{arith}
-use borrow.Author.Rules.{rules}
 use Rattle.entry.specs.Fields.{start_of}
 use Rattle.found.specs.Found.{start_in}
 use Rattle.found.proofs.Reading.{byte_at}

@@ -1,6 +1,5 @@
 -- `found::version_at` meets its contract: namespace and start in front, then the key. Assumes nothing.
 use native.Mathlib.Omega.{arith}
-use borrow.Author.Rules.{rules}
 use Rattle.found.specs.Found.{version_of}
 use Rattle.found.proofs.Reading.{key_here}
 use Rattle.found.proofs.items.version_at.Goals as goal

@@ -5,7 +5,6 @@ use native.Mathlib.Nat.{le_of_lt}
 use native.Mathlib.Omega.{arith}
 use lib.Dec.{ltb}
 use borrow.Author.Tests.{lt-ltb, le-ltb}
-use borrow.Author.Rules.{rules}
 use Rattle.entry.specs.Fields.{key_number}
 use Rattle.entry.proofs.Keys.{two-lt}
 use Rattle.found.specs.Ranks.{rank_number}

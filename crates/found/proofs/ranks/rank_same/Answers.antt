@@ -4,7 +4,6 @@ use Prim.Native.Nat.{ℕ, ◌+◌, ◌*◌, ◌^◌}
 use native.Mathlib.Omega.{arith}
 use lib.Dec.{eqb}
 use borrow.Author.Tests.{ne_eqb}
-use borrow.Author.Rules.{rules}
 use Rattle.entry.specs.Fields.{key_number}
 use Rattle.entry.proofs.Keys.{two-high}
 use Rattle.found.specs.Ranks.{rank_number}

@@ -11,7 +11,6 @@ use Rattle.word.specs.Number.{part}
 use Rattle.marking.specs.Marking.{marking}
 use Rattle.item.specs.Copy.{full_mark, copying}
 use Rattle.item.proofs.Turns.{copying_by}
-use borrow.Author.Rules.{rules}
 use Rattle.item.proofs.copy.copy_item.Goals as goal
 use Rattle.item.proofs.copy.copy_item.Goals.{In-Done}
 

@@ -1,13 +1,10 @@
 -- `item::copy_words` meets its contract: a word made in the lent part is that word of the image, and the source stays as it was. Assumes nothing.
-use mathlib.Core.Path.{◌≡◌, refl, ◌∙◌}
-use Prim.Native.Nat.{◌+◌, ◌-◌, ◌*◌, ◌≤◌}
+use mathlib.Core.Path.{refl, ◌∙◌}
+use Prim.Native.Nat.{◌+◌, ◌-◌, ◌*◌}
 use native.Mathlib.Omega.{arith}
-use lib.ListN.{length}
-use Rattle.flash.specs.Did.{Goes}
 use Rattle.flash.proofs.Laws.{goes_start, goes_on, goes-stop, goes_end}
 use native.Mathlib.Nat.{sub-zero}
 use Rattle.word.specs.Number.{part}
-use Rattle.flash.specs.Words.{words}
 use Rattle.flash.proofs.Words.{words_end}
 use Rattle.flash.proofs.Every.{every_one}
 use Rattle.flash.proofs.Frame.{did-kept}

@@ -1,7 +1,6 @@
 -- `item::mark_if_used` meets its contract: one step, or none. Assumes nothing.
 use Rattle.flash.proofs.Laws.{did_none}
 use Rattle.item.proofs.Turns.{full-yes, full-no}
-use borrow.Author.Rules.{rules}
 use Rattle.item.proofs.copy.mark_if_used.Goals as goal
 
 pub returns-then-next-eq-PAGE_ENTRIES : goal.returns-then-next-eq-PAGE_ENTRIES

@@ -2,7 +2,6 @@
 use Rattle.flash.proofs.Laws.{did_none}
 use Rattle.flash.proofs.Sectors.{lent-sector}
 use Rattle.item.proofs.Clearing.{clearing-blank, clearing-used}
-use borrow.Author.Rules.{rules}
 use Rattle.item.proofs.initial.clear_sector.Goals as goal
 
 pub returns-then-all_ones : goal.returns-then-all_ones

@@ -2,7 +2,6 @@
 use mathlib.Core.Path.{refl}
 use Rattle.flash.proofs.Laws.{goes_start, goes_on, goes-stop, goes_last}
 use Rattle.item.specs.Initialise.{initialising}
-use borrow.Author.Rules.{rules}
 use Rattle.item.proofs.initial.initialise.Goals as goal
 
 pub returns-in_default : goal.returns-in_default

@@ -1,6 +1,5 @@
 -- `versions::drop_version` meets its contract: the index, then the chunks, which stand where they stood. Assumes nothing.
 use mathlib.Core.Path.{refl}
-use borrow.Author.Rules.{rules}
 use Rattle.flash.proofs.Laws.{goes_start, goes_on, goes-stop, goes_last}
 use Rattle.found.proofs.Alike.{alike_trans, each-alike, items_alike}
 use Rattle.versions.specs.Versions.{drop_version}

@@ -1,6 +1,5 @@
 -- `page::see` meets its contract, field by field. Assumes nothing.
 use Rattle.page.specs.Record.{seen_of}
-use borrow.Author.Rules.{rules}
 use Rattle.page.proofs.seen.see.Goals as goal
 
 pub returns-then-is_free : goal.returns-then-is_free

@@ -9,7 +9,6 @@ use Rattle.word.specs.Number.{part, le}
 use Rattle.word.proofs.Bytes.{part-byte}
 use Rattle.crc.specs.Crc.{crc_of}
 use Rattle.page.specs.State.{state_of, header_right, word_state}
-use borrow.Author.Rules.{rules}
 use Rattle.page.proofs.state.page_state.Goals as goal
 
 pub returns-then-all_ones : goal.returns-then-all_ones

@@ -9,9 +9,7 @@ use Rattle.word.proofs.Bytes.{part-byte, le-part}
 use Rattle.entry.specs.States.{state_at}
 use Rattle.entry.specs.Kinds.{kind_of, known}
 use Rattle.entry.specs.Fields.{entry_at, crc_in, entry_crc, kind_in, span_of}
-use Rattle.page.proofs.Tests.{not-true, not-false}
 use Rattle.page.specs.Walk.{is_item, right_header}
-use borrow.Author.Rules.{rules}
 use Rattle.page.proofs.walk.is_item.Goals as goal
 
 pub returns-then-state-ne2 : goal.returns-then-state-ne2

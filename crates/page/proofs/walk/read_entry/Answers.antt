@@ -8,9 +8,7 @@ use lib.ListN.{get_or}
 use Rattle.word.proofs.Bytes.{part-byte, le-part}
 use Rattle.entry.specs.Kinds.{kind_of}
 use Rattle.entry.specs.Fields.{entry_at, kind_in, span_of}
-use Rattle.page.proofs.Tests.{not-true, not-false}
 use Rattle.page.specs.Walk.{is_item, reading_of, header_of}
-use borrow.Author.Rules.{rules}
 use Rattle.page.proofs.walk.read_entry.Goals as goal
 
 pub returns-then-not-is_item : goal.returns-then-not-is_item

@@ -1,10 +1,10 @@
 -- `records::see_all` meets its contract: what is seen so far is the sectors passed. Assumes nothing.
 use mathlib.Core.Path.{◌≡◌, ap, ap₂, ◌∙◌}
 use mathlib.Core.List.{List}
-use Prim.Native.Nat.{ℕ, ◌-◌, ◌≤◌}
+use Prim.Native.Nat.{ℕ}
 use native.Mathlib.Omega.{arith}
 use borrow.Author.Rules.{rules}
-use lib.ListN.{length, set, length-set}
+use lib.ListN.{set, length-set}
 use Rattle.flash.specs.Step.{sector}
 use Rattle.page.specs.Record.{seen_of}
 use Rattle.records.specs.declared.scanned.Scanned.{Scanned}

@@ -1,7 +1,6 @@
 -- `quick::chunk_name` meets its contract: the number is added in front of the key. Assumes nothing.
 use Prim.Native.Nat.{◌+◌, ◌*◌, ◌^◌}
 use native.Mathlib.Nat.{add_assoc, add-mul}
-use borrow.Author.Rules.{rules}
 use Rattle.entry.specs.Fields.{key_number}
 use Rattle.slots.proofs.names.chunk_name.Goals as goal
 

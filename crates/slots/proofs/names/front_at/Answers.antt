@@ -2,7 +2,6 @@
 use mathlib.Core.Path.{◌≡◌, sym, ◌∙◌}
 use mathlib.Core.Bool.{true, false}
 use native.Mathlib.Omega.{arith}
-use borrow.Author.Rules.{rules}
 use Rattle.entry.specs.Fields.{namespace_of, chunk_index_of}
 use Rattle.found.specs.Found.{is_chunk}
 use Rattle.found.specs.Places.{item_at}

@@ -2,7 +2,6 @@
 use mathlib.Core.Path.{ap, ◌∙◌}
 use Prim.Native.Nat.{ℕ}
 use lib.Dec.{eqb}
-use borrow.Author.Rules.{rules}
 use Rattle.found.specs.Ranks.{rank_number}
 use Rattle.slots.proofs.names.has_name.Goals as goal
 

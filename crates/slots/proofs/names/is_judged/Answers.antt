@@ -4,7 +4,6 @@ use mathlib.Core.Bool.{true, false}
 use native.Mathlib.Omega.{arith}
 use lib.Dec.{leb}
 use borrow.Author.Tests.{le-leb, lt-leb}
-use borrow.Author.Rules.{rules}
 use Rattle.entry.specs.Fields.{namespace_of}
 use Rattle.found.specs.Places.{item_at}
 use Rattle.slots.proofs.names.is_judged.Goals as goal

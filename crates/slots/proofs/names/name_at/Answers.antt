@@ -1,5 +1,4 @@
 -- `quick::name_at` meets its contract: the front, then the key. Assumes nothing.
-use borrow.Author.Rules.{rules}
 use Rattle.found.proofs.Reading.{key_here}
 use Rattle.slots.specs.Names.{name_of}
 use Rattle.slots.proofs.names.name_at.Goals as goal

@@ -3,7 +3,6 @@ use Prim.Native.Nat.{◌/◌, ◌^◌, ◌<◌}
 use native.Mathlib.Omega.{arith}
 use lib.Bits.{xor_lt}
 use lib.Pow.{high, low}
-use borrow.Author.Rules.{rules}
 use Rattle.found.proofs.Ranking.{key_below}
 use Rattle.slots.specs.Names.{slot_in, slot_of}
 use Rattle.slots.proofs.names.slot_of.Goals as goal

@@ -2,8 +2,6 @@
 use mathlib.Core.Path.{◌≡◌, sym, ap, ◌∙◌}
 use Prim.Native.Nat.{ℕ}
 use lib.Dec.{eqb}
-use borrow.Author.Tests.{not-true, not-false}
-use borrow.Author.Rules.{rules}
 use Rattle.found.specs.declared.ranks.Rank.{Rank}
 use Rattle.found.specs.Ranks.{rank_number}
 use Rattle.found.specs.Places.{item_at}

@@ -5,8 +5,6 @@ use mathlib.Core.List.{◌∷◌}
 use Prim.Native.Nat.{ℕ, ◌+◌, ◌-◌, ◌*◌, ◌≤◌}
 use native.Mathlib.Omega.{arith}
 use lib.ListN.{length, length-set, drop, get_or}
-use borrow.Author.Rules.{rules}
-use borrow.Author.Tests.{not-true, not-false}
 use Rattle.word.specs.Number.{part}
 use Rattle.entry.specs.States.{one}
 use Rattle.entry.specs.Fields.{chunk_number, chunk_size, index_count, index_size}
@@ -58,7 +56,7 @@ chunk : (c : After-number_at-n) →
 chunk c =
     let here : let a = c.args in
     let q = get_or a.places.now (c.loop-i.i - 1) 0 in (c.place_at-place.result ≡ q) × Placed a.image.now q =
-      (c.place_at-place.ensures, each_at (Placed c.args.image.now) c.args.places.now 0 c.requires.0.each (c.loop-i.i - 1) (omega arith))
+    (c.place_at-place.ensures, each_at (Placed c.args.image.now) c.args.places.now 0 c.requires.0.each (c.loop-i.i - 1) (omega arith))
     in
     let a = c.args in
     let h = here in (
@@ -141,7 +139,7 @@ ended : (c : After-loop-i) →
     Told (rank_number a.v) (index_count (item_at a.image.now a.index).raw) (items_at a.image.now a.places.now) l.seen l.chunks l.size
 ended c =
     let counts : let a = c.args in index_count (item_at a.image.now a.index).raw ≡ c.size-count.result =
-      byte-here c.args.image.now c.args.index c.requires.1 28 (omega arith) ∙ sym (c.size-count.ensures.0 ∙ c.index_count.ensures)
+    byte-here c.args.image.now c.args.index c.requires.1 28 (omega arith) ∙ sym (c.size-count.ensures.0 ∙ c.index_count.ensures)
     in
     let l = c.loop-i in
     let e : l.i ≡ 0 = omega arith in

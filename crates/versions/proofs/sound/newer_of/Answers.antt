@@ -1,7 +1,5 @@
 -- `versions::newer_of` meets its contract: each test that led to a return decides the definition's. Assumes nothing.
 use mathlib.Core.Path.{refl, sym, ◌∙◌}
-use borrow.Author.Tests.{not-true, not-false}
-use borrow.Author.Rules.{rules}
 use Rattle.lists.specs.Lists.{better}
 use Rattle.versions.specs.Search.{newest_with}
 use Rattle.versions.proofs.sound.newer_of.Goals as goal

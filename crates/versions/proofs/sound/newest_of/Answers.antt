@@ -1,15 +1,14 @@
 -- `versions::newest_of` meets its contract: what is found so far is the newest from here on. Assumes nothing.
 use mathlib.Core.Path.{◌≡◌, sym, ap, ◌∙◌}
-use Prim.Native.Nat.{ℕ, ◌+◌, ◌-◌, ◌≤◌}
+use Prim.Native.Nat.{ℕ, ◌+◌, ◌-◌}
 use native.Mathlib.Omega.{arith}
 use lib.ListN.{length, drop, get_or}
-use borrow.Author.Rules.{rules}
 use Rattle.lists.specs.Lists.{keep, best as bestOf}
 use Rattle.found.specs.Ranks.{rank_number}
 use Rattle.found.specs.Places.{item_at, items_at, Placed}
 use Rattle.found.proofs.Reading.{items_more, items_end}
 use Rattle.lists.proofs.Each.{each_at}
-use Rattle.versions.specs.Search.{newest_of, PlacedAt, newest_index, newest_with}
+use Rattle.versions.specs.Search.{newest_of, newest_index, newest_with}
 use Rattle.versions.proofs.Newer.{newest_more}
 use Rattle.versions.proofs.sound.newest_of.Goals as goal
 

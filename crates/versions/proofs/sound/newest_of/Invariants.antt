@@ -1,15 +1,9 @@
-use mathlib.Core.Path.{◌≡◌, sym, ap, ◌∙◌}
-use Prim.Native.Nat.{ℕ, ◌+◌, ◌-◌, ◌≤◌}
-use native.Mathlib.Omega.{arith}
-use lib.ListN.{length, drop, get_or}
-use borrow.Author.Rules.{rules}
-use Rattle.lists.specs.Lists.{keep, best as bestOf}
+use mathlib.Core.Path.{◌≡◌}
+use Prim.Native.Nat.{◌≤◌}
+use lib.ListN.{length, drop}
 use Rattle.found.specs.Ranks.{rank_number}
-use Rattle.found.specs.Places.{item_at, items_at, Placed}
-use Rattle.found.proofs.Reading.{items_more, items_end}
-use Rattle.lists.proofs.Each.{each_at}
-use Rattle.versions.specs.Search.{newest_of, PlacedAt, newest_index, newest_with}
-use Rattle.versions.proofs.Newer.{newest_more}
+use Rattle.found.specs.Places.{items_at}
+use Rattle.versions.specs.Search.{newest_of, PlacedAt, newest_index}
 use Rattle.versions.proofs.sound.newest_of.Given as goal
 
 abbrev pub invariant-loop-i : goal.invariant-loop-i
