@@ -1,4 +1,4 @@
-pub mod Alike
+pub mod Likeness
 pub mod Makes
 pub mod Leaves
 pub mod Lengths

@@ -52,6 +52,7 @@ pub fn all_ones(s: &[u8]) -> bool
 }
 
 // The state that a state word, given by its bytes, lowest first, stands for.
+#[tactic(auto, unfolding(crate::specs::State::word_state))]
 fn state_of_word(b0: u8, b1: u8, b2: u8, b3: u8) -> PageState
     ensures { result ≡ word_state (b0 ∷ b1 ∷ b2 ∷ b3 ∷ []) }
 {

@@ -1,4 +1,3 @@
-pub mod Enter
 pub mod Lists
 pub mod Reading
 pub mod Noting

@@ -1,7 +1,6 @@
 // The answer to op 1, reclaim, and what it has in common with recovery's.
 use crate::bytes::{put_byte, put_eight, put_four};
 use answer::{Answer, Stage};
-use libc::STDOUT_FILENO;
 
 fn stage_number(stage: Stage) -> u8 {
     match stage {
@@ -30,25 +29,25 @@ fn source_of(answer: Answer) -> u32 {
     (sector % 0x1_0000_0000) as u32
 }
 
-// Result, steps, stage, source and the image's length, and then the image.
-pub fn write_call(answer: Answer, image: &[u8]) -> bool {
+// Result, steps, stage, source and the image's length, and then the image. Like each function that writes, it says whether all was written.
+pub fn write_call(rt: &impl Print, answer: Answer, image: &[u8]) -> bool {
     let mut out = [0u8; 18];
     put_byte(&mut out, 0, answer::number(answer));
     put_eight(&mut out, 1, answer::steps(answer));
     put_byte(&mut out, 9, stage_of(answer));
     put_four(&mut out, 10, source_of(answer));
     put_four(&mut out, 14, (image.len() % 0x1_0000_0000) as u32);
-    if io::write_all(STDOUT_FILENO, &out) {
-        io::write_all(STDOUT_FILENO, image)
+    if rt.write_all(&out).is_ok() {
+        rt.write_all(image).is_ok()
     } else {
         false
     }
 }
 
-pub fn answer_reclaim(image: &mut [u8], allowance: u64) -> bool {
+pub fn answer_reclaim(rt: &impl Print, image: &mut [u8], allowance: u64) -> bool {
     let answer = reclaim::reclaim(image, allowance);
-    if write_call(answer, image) {
-        io::write_all(STDOUT_FILENO, &[0, 0, 0, 0])
+    if write_call(rt, answer, image) {
+        rt.write_all(&[0, 0, 0, 0]).is_ok()
     } else {
         false
     }

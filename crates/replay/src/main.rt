@@ -18,56 +18,62 @@ mod recovery;
 
 ghost use Rattle.std.specs.Prelude.{◌≤◌, length as list_length};
 
-use libc::{STDIN_FILENO, STDOUT_FILENO};
+use std::io::Read;
 
 // Reads one case into `image`, writes its answer, and says whether to go on.
-fn one_case(image: &mut [u8]) -> bool {
+fn one_case<R: Read>(rt: &impl Print, input: &mut R, image: &mut [u8]) -> bool {
     let mut head = [0u8; 17];
-    let got = io::read_full(STDIN_FILENO, &mut head);
-    if got < 17 {
+    if input.read_exact(&mut head).is_err() {
         return false;
     }
     let length = word::le32(&head, 13) as usize;
     if image.len() < length {
         return false;
     }
-    let read = io::read_full(STDIN_FILENO, &mut image[..length]);
-    if read < length {
+    if input.read_exact(&mut image[..length]).is_err() {
         return false;
     }
     let lent = word::le32(&head, 9) as usize;
-    answer(head[0], word::le64(&head, 1), lent, image, length)
+    answer(rt, head[0], word::le64(&head, 1), lent, image, length)
 }
 
-fn answer(op: u8, allowance: u64, lent: usize, image: &mut [u8], length: usize) -> bool
+fn answer(
+    rt: &impl Print,
+    op: u8,
+    allowance: u64,
+    lent: usize,
+    image: &mut [u8],
+    length: usize,
+) -> bool
     requires { length ≤ list_length image.old }
 {
     if op == 0 {
-        return recovery::answer_recover(&mut image[..length], lent, allowance);
+        return recovery::answer_recover(rt, &mut image[..length], lent, allowance);
     }
     if op == 1 {
-        return calls::answer_reclaim(&mut image[..length], allowance);
+        return calls::answer_reclaim(rt, &mut image[..length], allowance);
     }
     if op == 2 {
-        return answer_items(&image[..length]);
+        return answer_items(rt, &image[..length]);
     }
     if op == 3 {
-        return recovery::answer_listing(&mut image[..length]);
+        return recovery::answer_listing(rt, &mut image[..length]);
     }
     false
 }
 
-fn answer_items(sector: &[u8]) -> bool {
+fn answer_items(rt: &impl Print, sector: &[u8]) -> bool {
     let mut out = [0u8; items::MOST_BYTES];
     let n = items::answer(sector, &mut out);
-    io::write_all(STDOUT_FILENO, &out[..n])
+    rt.write_all(&out[..n]).is_ok()
 }
 
 // Nothing says that the input ends, and a proved loop has to: it counts down from a number of cases that no run reaches.
-fn main() {
+fn main(rt: HostRuntime) {
+    let mut input = rt.stdin();
     let mut image = [0u8; 131072];
     let mut left = u64::MAX;
-    while left > 0 && one_case(&mut image) {
+    while left > 0 && one_case(&rt, &mut input, &mut image) {
         left -= 1;
     }
 }

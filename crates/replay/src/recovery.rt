@@ -4,7 +4,6 @@ ghost use Rattle.std.specs.Prelude.{◌≤◌};
 use crate::bytes::{put_byte, put_four};
 use crate::calls::write_call;
 use lent::Lent;
-use libc::STDOUT_FILENO;
 use page::{PageRecord, PageState};
 
 fn state_number(state: PageState) -> u8 {
@@ -46,7 +45,7 @@ fn count_word(n: u8) -> u32 {
     word::wide(n)
 }
 
-fn write_record(r: PageRecord) -> bool {
+fn write_record(rt: &impl Print, r: PageRecord) -> bool {
     let mut out = [0u8; 25];
     put_byte(&mut out, 0, state_byte(r));
     put_four(&mut out, 1, r.sequence);
@@ -55,21 +54,21 @@ fn write_record(r: PageRecord) -> bool {
     put_four(&mut out, 13, count_word(r.empty));
     put_four(&mut out, 17, count_word(r.illegal));
     put_four(&mut out, 21, count_word(r.unread));
-    io::write_all(STDOUT_FILENO, &out)
+    rt.write_all(&out).is_ok()
 }
 
-fn write_records(made: Lent, lent: usize) -> bool
+fn write_records(rt: &impl Print, made: Lent, lent: usize) -> bool
     requires { lent ≤ 32 }
 {
     let mut head = [0u8; 4];
     put_four(&mut head, 0, (lent % 65536) as u32);
-    if !io::write_all(STDOUT_FILENO, &head) {
+    if rt.write_all(&head).is_err() {
         return false;
     }
     let mut i: usize = 0;
     while i < lent {
         let r = made.records[i];
-        if !write_record(r) {
+        if !write_record(rt, r) {
             return false;
         }
         i += 1;
@@ -77,29 +76,29 @@ fn write_records(made: Lent, lent: usize) -> bool
     true
 }
 
-pub fn answer_recover(image: &mut [u8], lent: usize, allowance: u64) -> bool {
+pub fn answer_recover(rt: &impl Print, image: &mut [u8], lent: usize, allowance: u64) -> bool {
     if 32 < lent {
         return false;
     }
     let given = [unchanged(); 32];
     let made = lent::recover_lent(image, given, lent, allowance);
     let answer = made.answer;
-    if write_call(answer, image) {
-        write_records(made, lent)
+    if write_call(rt, answer, image) {
+        write_records(rt, made, lent)
     } else {
         false
     }
 }
 
 // The text's length, and the text.
-pub fn answer_listing(image: &mut [u8]) -> bool {
+pub fn answer_listing(rt: &impl Print, image: &mut [u8]) -> bool {
     let length = image.len() as u64;
     let mut out = [0u8; 2048];
     let n = listing::list_image(image, length, &mut out);
     let mut head = [0u8; 4];
     put_four(&mut head, 0, (n % 65536) as u32);
-    if io::write_all(STDOUT_FILENO, &head) {
-        io::write_all(STDOUT_FILENO, &out[..n])
+    if rt.write_all(&head).is_ok() {
+        rt.write_all(&out[..n]).is_ok()
     } else {
         false
     }

@@ -1,6 +1,6 @@
 -- Where a run ends. Assumes nothing.
 use mathlib.Core.Path.{◌≡◌, refl, sym, ap, ap₂, ◌∙◌}
-use mathlib.Core.Logic.{inl}
+use mathlib.Core.Logic.{inl, inr}
 use mathlib.Core.List.{List, [], ◌∷◌, ◌++◌, map-append}
 use Prim.Native.Nat.{ℕ, suc, ◌+◌, ◌-◌, ◌≤◌, ◌<◌}
 use native.Mathlib.Omega.{arith}
@@ -37,6 +37,7 @@ module _ (f : Found → ℕ) (l places : List ℕ) (a : ℕ) where
         where
           only : (y : Found) → y ∈ (x ∷ []) → f y ≡ G
           only y (inl e) = ap f e ∙ q
+          only y (inr m) = elim m [ ]
 
   pub same_one : a < length places → Same (a + 1)
   same_one h = same_more a (omega arith) h refl (rw (slice_empty a places) (each_nil (λ (x : Found). f x ≡ G)))

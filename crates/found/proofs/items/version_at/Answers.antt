@@ -1,0 +1,12 @@
+-- `found::version_at` meets its contract: namespace and start in front, then the key. Assumes nothing.
+use native.Mathlib.Omega.{arith}
+use borrow.Author.Rules.{rules}
+use Rattle.found.specs.Found.{version_of}
+use Rattle.found.proofs.Reading.{key_here}
+use Rattle.found.proofs.items.version_at.Goals as goal
+
+pub returns : goal.returns
+unfolding version_of
+returns c =
+    let key = key_here c.args.image.now c.args.place c.requires in
+    (rw (c.key_at.ensures, ← key, c.wide-2.ensures.0, c.start_at.ensures, c.wide.ensures.0, c.namespace_at.ensures), omega arith)

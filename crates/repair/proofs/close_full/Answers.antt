@@ -1,0 +1,8 @@
+-- `stages::close_full` meets its contract. Assumes nothing.
+use Rattle.answer.specs.declared.Stage.TheVariants.{Duplicates}
+use Rattle.answer.proofs.Made.{made_tag}
+use borrow.Author.Rules.{rules}
+use Rattle.repair.proofs.close_full.Goals as goal
+
+pub returns : goal.returns
+returns c = rw c.in_stage.ensures (made_tag Duplicates c.make_last_marks-r.ensures)
