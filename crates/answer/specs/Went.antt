@@ -1,7 +1,7 @@
 -- Bridge: what a call has done of steps that have stages, while more may follow. Assumes nothing.
 use Rattle.std.specs.Prelude.{◌≡◌, List, [], ◌∷◌, ℕ, ◌-◌, length, take}
 use Rattle.flash.specs.declared.Ran.{Ran}
-use Rattle.flash.specs.declared.Ran.TheVariants.{Done as All, Stopped as NotAll}
+use Rattle.flash.specs.declared.Ran.TheVariants.{Done as AllMade, Stopped as NotAllMade}
 use Rattle.flash.specs.Step.{run}
 use Rattle.answer.specs.declared.Stage.{Stage}
 use Rattle.answer.specs.declared.Went.{Went}
@@ -30,8 +30,8 @@ pub record Making (T : List Staged) (N : ℕ) (L : List ℕ) (ts : List Staged) 
 
 -- steps that are all of the stage x: whether they were all made says how far they went
 abbrev pub in_stage : Stage → Ran → Went
-in_stage x (All k) = Ended k
-in_stage x NotAll = Short x
+in_stage x (AllMade k) = Ended k
+in_stage x NotAllMade = Short x
 
 -- the answer of a call, to which n steps were allowed
 abbrev pub told_of : Went → ℕ → Answer
