@@ -17,7 +17,7 @@ pub struct Lent {
     pub records: [PageRecord; MOST_LENT],
 }
 
-// In a function of its own, which the borrow checker covers: `recover_lent`, which lends records, is proved by hand.
+// The answer and the records, as they stand after the call.
 fn both(answer: Answer, records: [PageRecord; MOST_LENT]) -> Lent
     ensures { (result.answer ≡ answer) × (result.records ≡ records) }
 {
