@@ -3,7 +3,7 @@
 
 usage: python3 tools/respell.py [ROOT]
 
-Run once, right after /opt/rattle/port/port.py, at the top of the repository. It turns whole words of the table tools/respell.tsv in .antt files, and in the
+Run once, right after the kit's own script port.py, at the top of the repository. It turns whole words of the table tools/respell.tsv in .antt files, and in the
 clauses, ghost items and comments of .rt files (where no word of the table can be Rust). The proof of a function f is f_spec. A second run changes nothing.
 """
 import os
