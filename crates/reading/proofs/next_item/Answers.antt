@@ -38,7 +38,6 @@ loop-i-preserved c =
     let i = c.loop-i.i in
     let none = reading_none s i (sym c.read_entry.ensures ∙ c.in_default.is) in
     let turn = passed_skip s i none c.loop-i-test.true in
-    let one = c.one_written-passed.ensures in
     (sym (walk_skip s i none) ∙ c.loop-i.invariant.0, omega arith, omega arith)
 
 pub overflow_add-next : goal.overflow_add-next
