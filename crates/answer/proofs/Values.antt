@@ -13,12 +13,11 @@ use borrow.Author.Tests.{lt-ltb, le-ltb}
 use Rattle.flash.specs.Step.{Step, run}
 use Rattle.flash.proofs.Order.{le-or-gt}
 use Rattle.answer.specs.declared.Stage.{Stage}
-use Rattle.answer.specs.declared.Went.{Went}
 use Rattle.answer.specs.declared.Answer.{Answer}
 use Rattle.answer.specs.declared.Answer.TheVariants.{Done, NotSectors, FewRecords, ActiveStands, AllWritten, NoFreeSector, SequencesSpent, Stopped}
 use Rattle.answer.specs.Answer.{number_of, steps_of, stage_of, refusal}
 use Rattle.answer.specs.Staged.{Staged, untag, left, stopped_at, answer_of}
-use Rattle.answer.specs.Went.{told_of}
+use Rattle.answer.specs.Went.{told_of, Went}
 use Rattle.answer.specs.Told.{Line, number_in, steps_made, first_stage, Told}
 use Rattle.answer.proofs.Tagged.{left_none, steps_told}
 use Rattle.answer.proofs.Made.{untag-take, went_short, told_is}

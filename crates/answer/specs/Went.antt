@@ -1,19 +1,19 @@
 -- Bridge: what a call has done of steps that have stages, while more may follow. Assumes nothing.
-use Rattle.std.specs.Prelude.{◌≡◌, List, [], ◌∷◌, ℕ, ◌-◌, length, take}
-use Rattle.flash.specs.declared.Ran.{Ran}
-use Rattle.flash.specs.declared.Ran.TheVariants.{Done as AllMade, Stopped as NotAllMade}
+use Rattle.std.specs.Prelude.{◌≡◌, List, [], ◌∷◌, ℕ, ◌-◌, length, take, Result, Ok, Err}
+use Rattle.flash.specs.Did.{Ran}
 use Rattle.flash.specs.Step.{run}
 use Rattle.answer.specs.declared.Stage.{Stage}
-use Rattle.answer.specs.declared.Went.{Went}
-use Rattle.answer.specs.declared.Went.TheVariants.{Ended, Short}
 use Rattle.answer.specs.declared.Answer.{Answer}
 use Rattle.answer.specs.declared.Answer.TheVariants.{Done, Stopped}
 use Rattle.answer.specs.Staged.{Staged, untag, left}
 
--- the stage of the first step not made, or how many are still allowed
+-- how many are still allowed, or the stage of the first step not made
+abbrev pub Went : Type 0
+Went = Result ℕ Stage
+
 abbrev pub went_to : ℕ → List Staged → Went
-went_to k [] = Ended k
-went_to k (t ∷ ts) = Short t.stage
+went_to k [] = Ok k
+went_to k (t ∷ ts) = Err t.stage
 
 unfoldable pub went : ℕ → List Staged → Went
 went n ts = went_to (n - length ts) (left n ts)
@@ -30,10 +30,10 @@ pub record Making (T : List Staged) (N : ℕ) (L : List ℕ) (ts : List Staged) 
 
 -- steps that are all of the stage x: whether they were all made says how far they went
 abbrev pub in_stage : Stage → Ran → Went
-in_stage x (AllMade k) = Ended k
-in_stage x NotAllMade = Short x
+in_stage x (Ok k) = Ok k
+in_stage x (Err _) = Err x
 
 -- the answer of a call, to which n steps were allowed
 abbrev pub told_of : Went → ℕ → Answer
-told_of (Ended k) n = Done (n - k)
-told_of (Short x) n = Stopped x n
+told_of (Ok k) n = Done (n - k)
+told_of (Err x) n = Stopped x n

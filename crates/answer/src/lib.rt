@@ -31,11 +31,7 @@ pub enum Answer {
 }
 
 // What became of steps that have stages: all were made, and so many are still allowed; or none is, and this is the stage of the first that was not made.
-#[derive(Clone, Copy)]
-pub enum Went {
-    Ended(u64),
-    Short(Stage),
-}
+pub type Went = Result<u64, Stage>;
 
 // The number that document 01 gives an answer.
 pub fn number(answer: Answer) -> u8
@@ -58,14 +54,13 @@ pub fn steps(answer: Answer) -> u64
     ensures { result ≡ steps_of answer }
 {
     match answer {
-        Answer::Done(n) => n,
-        Answer::NotSectors => 0,
-        Answer::FewRecords => 0,
-        Answer::ActiveStands => 0,
-        Answer::AllWritten => 0,
-        Answer::NoFreeSector => 0,
-        Answer::SequencesSpent => 0,
-        Answer::Stopped(_, n) => n,
+        Answer::Done(n) | Answer::Stopped(_, n) => n,
+        Answer::NotSectors
+        | Answer::FewRecords
+        | Answer::ActiveStands
+        | Answer::AllWritten
+        | Answer::NoFreeSector
+        | Answer::SequencesSpent => 0,
     }
 }
 
@@ -73,10 +68,7 @@ pub fn steps(answer: Answer) -> u64
 pub fn in_stage(stage: Stage, ran: Ran) -> Went
     ensures { result ≡ in_stage stage ran }
 {
-    match ran {
-        Ran::Done(left) => Went::Ended(left),
-        Ran::Stopped => Went::Short(stage),
-    }
+    ran.map_err(|_| stage)
 }
 
 // The answer of a call to which `allowance` steps were allowed.
@@ -84,13 +76,7 @@ pub fn told(went: Went, allowance: u64) -> Answer
     ensures { result ≡ told_of went allowance }
 {
     match went {
-        Went::Ended(left) => {
-            if left <= allowance {
-                Answer::Done(allowance - left)
-            } else {
-                Answer::Done(0)
-            }
-        }
-        Went::Short(stage) => Answer::Stopped(stage, allowance),
+        Ok(left) => Answer::Done(allowance.saturating_sub(left)),
+        Err(stage) => Answer::Stopped(stage, allowance),
     }
 }

@@ -11,15 +11,12 @@ pub fn keep_parts(image: &[u8], room: &mut [u16], n: usize) -> usize
     ensures { (result ≤ n) × (take result room.new ≡ keep (λ (p : ℕ). is_part (item_at image.now p).raw) (take n room.old)) }
 {
     let mut k: usize = 0;
-    let mut i: usize = 0;
-    while i < n {
+    for i in 0..n {
         let place = room[i];
-        i += 1;
-        if !found::is_part(image, place as usize) {
-            continue;
+        if found::is_part(image, usize::from(place)) {
+            room[k] = place;
+            k += 1;
         }
-        room[k] = place;
-        k += 1;
     }
     k
 }

@@ -18,23 +18,21 @@ use flash::Ran;
 use sort::Order;
 
 // The versions of one start: the places are sorted by their groups.
+// Three loops over runs: one over closures needs a ghost pass and five clauses on what they may be called with and answer, for these five lines.
 fn judge_start(image: &mut [u8], places: &[u16], start: u32, allowed: u64) -> Ran
     requires { Gathered image.old places.now × (start < 256) }
     ensures { Did (flat_map (start_steps start) (runs group_by (items_at image.old places.now))) allowed image.old image.new result × Alike image.old image.new }
 {
     let mut left = allowed;
     let mut a: usize = 0;
+    // the step is as long as the run that begins at `a`
     while a < places.len() {
         let e = sort::run_end(image, places, a);
-        let g = found::group_at(image, found::place_at(places, a));
-        let r = judging::judge_version(image, &places[a..e], judging::version_in(g, start), left);
-        let Ran::Done(rest) = r else {
-            return Ran::Stopped;
-        };
-        left = rest;
+        let g = found::group_at(image, usize::from(places[a]));
+        left = judging::judge_version(image, &places[a..e], judging::version_in(g, start), left)?;
         a = e;
     }
-    Ran::Done(left)
+    Ok(left)
 }
 
 // The versions of one namespace, ascending: those of start 0, then those of start 0x80.
@@ -42,10 +40,7 @@ fn judge_space(image: &mut [u8], places: &[u16], allowed: u64) -> Ran
     requires { Gathered image.old places.now }
     ensures { Did (space_steps (items_at image.old places.now)) allowed image.old image.new result × Alike image.old image.new }
 {
-    let r = judge_start(image, places, 0, allowed);
-    let Ran::Done(left) = r else {
-        return Ran::Stopped;
-    };
+    let left = judge_start(image, places, 0, allowed)?;
     judge_start(image, places, 0x80, left)
 }
 
@@ -54,15 +49,8 @@ fn space_end(image: &[u8], places: &[u16], a: usize) -> usize
     requires { Each (Placed image.now) places.now × (a < length places.now) }
     ensures { RunEnds space_by image.now places.now a result }
 {
-    let space = found::namespace_at(image, found::place_at(places, a));
-    let mut e = a + 1;
-    while e < places.len() {
-        if found::namespace_at(image, found::place_at(places, e)) != space {
-            return e;
-        }
-        e += 1;
-    }
-    e
+    let space = found::namespace_at(image, usize::from(places[a]));
+    sort::end_of(places, a, |p| found::namespace_at(image, p) == space)
 }
 
 // All versions, namespace by namespace.
@@ -72,16 +60,13 @@ fn judge_all(image: &mut [u8], places: &[u16], allowed: u64) -> Ran
 {
     let mut left = allowed;
     let mut a: usize = 0;
+    // the step is as long as the run that begins at `a`
     while a < places.len() {
         let e = space_end(image, places, a);
-        let r = judge_space(image, &places[a..e], left);
-        let Ran::Done(rest) = r else {
-            return Ran::Stopped;
-        };
-        left = rest;
+        left = judge_space(image, &places[a..e], left)?;
         a = e;
     }
-    Ran::Done(left)
+    Ok(left)
 }
 
 // Group by group, of two sound versions the older goes.
@@ -91,27 +76,21 @@ fn drop_all_older(image: &mut [u8], places: &[u16], allowed: u64) -> Ran
 {
     let mut left = allowed;
     let mut a: usize = 0;
+    // the step is as long as the run that begins at `a`
     while a < places.len() {
         let e = sort::run_end(image, places, a);
-        let g = found::group_at(image, found::place_at(places, a));
-        let r = judging::drop_older(image, &places[a..e], g, left);
-        let Ran::Done(rest) = r else {
-            return Ran::Stopped;
-        };
-        left = rest;
+        let g = found::group_at(image, usize::from(places[a]));
+        left = judging::drop_older(image, &places[a..e], g, left)?;
         a = e;
     }
-    Ran::Done(left)
+    Ok(left)
 }
 
 fn take_parts(image: &mut [u8], places: &[u16], allowed: u64) -> Ran
     requires { Gathered image.old places.now }
     ensures { Did (flat_map space_steps (runs space_by (items_at image.old places.now)) ++ flat_map older_steps (runs group_by (items_at image.old places.now))) allowed image.old image.new result × Alike image.old image.new }
 {
-    let r = judge_all(image, places, allowed);
-    let Ran::Done(left) = r else {
-        return Ran::Stopped;
-    };
+    let left = judge_all(image, places, allowed)?;
     drop_all_older(image, places, left)
 }
 
@@ -120,14 +99,9 @@ pub fn any_part(image: &[u8], places: &[u16]) -> bool
     requires { Each (Placed image.now) places.now }
     ensures { result ≡ some_of (λ (x : Found). is_part x.raw) (items_at image.now places.now) }
 {
-    let mut i: usize = 0;
-    while i < places.len() {
-        if found::is_part(image, found::place_at(places, i)) {
-            return true;
-        }
-        i += 1;
-    }
-    false
+    places
+        .iter()
+        .any(|&place| found::is_part(image, usize::from(place)))
 }
 
 // The stage, on the items at the first `n` places in `room`, which is lost: the parts of blobs are put in front, and sorted by their groups.

@@ -8,11 +8,11 @@ use native.Mathlib.Numerals.{add-one}
 use mathlib.Core.Bool.{Bool, true, false}
 use borrow.Author.Tests.{ltb-true, ltb-false}
 use lib.Dec.{ltb, lit<}
-use lib.ListN.{length, take, drop, get_or, length-take, length-drop, drop_of_length-le, take-append-drop, get_or-eq_default}
-use lib.Seq.{drop-cons}
+use lib.ListN.{length, take, drop, get_or, drop_of_length-le, take-append-drop, get_or-eq_default}
+use lib.Seq.{drop-cons, get_or-take, length-take-le}
 use lib.Pow.{pow_pos, split}
-use Rattle.word.specs.Number.{part, le}
-use Rattle.word.proofs.Bytes.{le_four, part-byte, le-part}
+use Rattle.word.specs.Number.{le}
+use Rattle.word.proofs.Bytes.{le_four, le-part}
 use lib.Bits.{bit_xor, xor_comm, xor_shifted}
 use Rattle.crc.specs.Crc.{crc_bit, crc_bits, crc_byte, crc_from}
 use Rattle.crc.proofs.Xor.{xor_assoc}
@@ -95,28 +95,29 @@ module _ (s : List ℕ) (i : ℕ) where
   unfolding crc_from crc_byte
   byte-turn r h = ap (crc_from r) (drop-cons s i 0 h) ∙ ap (λ (n : ℕ). crc_from (crc_bits 8 (bit_xor r (get_or s i 0))) (drop n s)) (sym (add-one i))
 
-module _ (s : List ℕ) (at n : ℕ) (small : (j : ℕ) → get_or s j 0 < 256) (fits : at + 4 * n ≤ length s) where
+module _ (s : List ℕ) (n : ℕ) (small : (j : ℕ) → get_or s j 0 < 256) (fits : 4 * n ≤ length s) where
   abbrev piece : List ℕ
-  piece = part s at (4 * n)
+  piece = take (4 * n) s
 
   piece-length : length piece ≡ 4 * n
-  piece-length = simp (length-take, length-drop) (omega arith)
+  piece-length = length-take-le (4 * n) s fits
 
   small_piece : (j : ℕ) → get_or piece j 0 < 256
   small_piece j = go (ltb j (4 * n)) refl
     where
       go : (b : Bool) → ltb j (4 * n) ≡ b → get_or piece j 0 < 256
-      go true e = rw (part-byte s at (4 * n) j (ltb-true j (4 * n) e)) (small (at + j))
+      go true e = rw (get_or-take (4 * n) s j 0 (ltb-true j (4 * n) e)) (small j)
       go false e =
           let h : length piece ≤ j = omega (arith, piece-length, ltb-false j (4 * n) e) in
           rw (get_or-eq_default piece 0 h) (lit< tt)
 
   -- a turn through the words of a piece
-  pub piece-turn : (k r : ℕ) → k < n → crc_from r (drop (4 * k) piece) ≡ crc_from (crc_bits 32 (bit_xor r (le s (at + 4 * k) 4))) (drop (4 * (k + 1)) piece)
+  pub piece-turn : (k r : ℕ) → k < n → crc_from r (drop (4 * k) piece) ≡ crc_from (crc_bits 32 (bit_xor r (le s (4 * k) 4))) (drop (4 * (k + 1)) piece)
   piece-turn k r h =
       let e : 4 * k + 4 ≡ 4 * (k + 1) = omega arith in
+      let w : le piece (4 * k) 4 ≡ le s (4 * k) 4 = le-part s 0 (4 * n) (4 * k) 4 (omega arith) ∙ ap (λ (i : ℕ). le s i 4) (zero-add (4 * k)) in
       word-turn piece (4 * k) r small_piece (omega (arith, piece-length))
-      ∙ ap₂ (λ (v m : ℕ). crc_from (crc_bits 32 (bit_xor r v)) (drop m piece)) (le-part s at (4 * n) (4 * k) 4 (omega arith)) e
+      ∙ ap₂ (λ (v m : ℕ). crc_from (crc_bits 32 (bit_xor r v)) (drop m piece)) w e
 
   pub piece_end : (k : ℕ) → n ≤ k → drop (4 * k) piece ≡ []
   piece_end k h =
@@ -124,5 +125,5 @@ module _ (s : List ℕ) (at n : ℕ) (small : (j : ℕ) → get_or s j 0 < 256) 
       drop_of_length-le piece l
 
 -- the words of a list first, and then the rest
-pub words_first : (s : List ℕ) (m r : ℕ) → crc_from (crc_from r (part s 0 m)) (drop m s) ≡ crc_from r s
+pub words_first : (s : List ℕ) (m r : ℕ) → crc_from (crc_from r (take m s)) (drop m s) ≡ crc_from r s
 words_first s m r = sym (from_append r (take m s) (drop m s)) ∙ ap (crc_from r) (take-append-drop m s)

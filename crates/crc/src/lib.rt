@@ -1,18 +1,13 @@
 // The CRC of document 01 by a table, four bytes a turn.
 //
-// The table is a constant array that a call makes once and lends to whatever it calls: an array that is indexed where it stands is stored to the
-// stack at every use.
+// The table is a static: a constant array that is indexed where it stands is stored to the stack at every use.
 #![tactic(auto)]
 
-ghost use Rattle.std.specs.Prelude.{◌≡◌, ◌+◌, ◌*◌, ◌<◌, ◌≤◌, length};
-ghost use Rattle.word.specs.Number.{part};
+ghost use Rattle.std.specs.Prelude.{◌≡◌, ◌*◌, ◌≤◌, length, take};
 ghost use Rattle.crc.specs.Crc.{crc_bits, crc_from, crc_of, complement};
-ghost use Rattle.crc.specs.Table.{crc_table};
 
 // Five parts of 64 numbers and one of four: a part for each six bits of a register.
-pub type CrcTable = [u32; 324];
-
-const TABLE: CrcTable = [
+static TABLE: [u32; 324] = [
     0x00000000, 0xB8BC6765, 0xAA09C88B, 0x12B5AFEE, 0x8F629757, 0x37DEF032, 0x256B5FDC, 0x9DD738B9,
     0xC5B428EF, 0x7D084F8A, 0x6FBDE064, 0xD7018701, 0x4AD6BFB8, 0xF26AD8DD, 0xE0DF7733, 0x58631056,
     0x5019579F, 0xE8A530FA, 0xFA109F14, 0x42ACF871, 0xDF7BC0C8, 0x67C7A7AD, 0x75720843, 0xCDCE6F26,
@@ -56,16 +51,8 @@ const TABLE: CrcTable = [
     0x00000000, 0x76DC4190, 0xEDB88320, 0x9B64C2B0,
 ];
 
-// The table, for its caller to lend.
-pub fn table() -> CrcTable
-    ensures { result ≡ crc_table }
-{
-    TABLE
-}
-
 // Thirty-two bits of a register: six by six, each through its own part of the table.
-fn four_bytes(t: &CrcTable, x: u32) -> u32
-    requires { t.now ≡ crc_table }
+fn four_bytes(x: u32) -> u32
     ensures { result ≡ crc_bits 32 x }
 {
     let x1 = x / 64;
@@ -73,47 +60,41 @@ fn four_bytes(t: &CrcTable, x: u32) -> u32
     let x3 = x2 / 64;
     let x4 = x3 / 64;
     let x5 = x4 / 64;
-    t[(x % 64) as usize]
-        ^ (t[(x1 % 64 + 64) as usize]
-            ^ (t[(x2 % 64 + 128) as usize]
-                ^ (t[(x3 % 64 + 192) as usize]
-                    ^ (t[(x4 % 64 + 256) as usize] ^ t[(x5 + 320) as usize]))))
+    TABLE[(x % 64) as usize]
+        ^ (TABLE[(x1 % 64 + 64) as usize]
+            ^ (TABLE[(x2 % 64 + 128) as usize]
+                ^ (TABLE[(x3 % 64 + 192) as usize]
+                    ^ (TABLE[(x4 % 64 + 256) as usize] ^ TABLE[(x5 + 320) as usize]))))
 }
 
 // Eight bits of a register, through the table's last two parts; the rest of it is only shifted.
-fn one_byte(t: &CrcTable, x: u32) -> u32
-    requires { t.now ≡ crc_table }
+fn one_byte(x: u32) -> u32
     ensures { result ≡ crc_bits 8 x }
 {
     let x1 = x / 64;
-    t[(x % 64 + 256) as usize] ^ ((x1 / 4) ^ t[(x1 % 4 + 320) as usize])
+    TABLE[(x % 64 + 256) as usize] ^ ((x1 / 4) ^ TABLE[(x1 % 4 + 320) as usize])
 }
 
-// The register after `n` words of `s` from `at` on, begun at `from`: a CRC is taken piece by piece.
-pub fn words(t: &CrcTable, from: u32, s: &[u8], at: usize, n: usize) -> u32
-    requires { (t.now ≡ crc_table) × (at + 4 * n ≤ length s.now) }
-    ensures { result ≡ crc_from from (part s.now at (4 * n)) }
+// The register after the first `n` words of `s`, begun at `from`.
+fn words(from: u32, s: &[u8], n: usize) -> u32
+    requires { 4 * n ≤ length s.now }
+    ensures { result ≡ crc_from from (take (4 * n) s.now) }
 {
     let mut r = from;
-    let mut k: usize = 0;
-    while k < n {
-        r = four_bytes(t, r ^ word::le32(s, at + 4 * k));
-        k += 1;
+    for k in 0..n {
+        r = four_bytes(r ^ word::le32(s, 4 * k));
     }
     r
 }
 
-// The register after the bytes of `s`, begun at `from`: its words, and then the bytes that are left.
-pub fn run(t: &CrcTable, from: u32, s: &[u8]) -> u32
-    requires { t.now ≡ crc_table }
+// The register after the bytes of `s`, begun at `from`: its words, and then the bytes that are left. A CRC is taken piece by piece.
+pub fn run(from: u32, s: &[u8]) -> u32
     ensures { result ≡ crc_from from s.now }
 {
     let n = s.len() / 4;
-    let mut r = words(t, from, s, 0, n);
-    let mut i = 4 * n;
-    while i < s.len() {
-        r = one_byte(t, r ^ word::wide(s[i]));
-        i += 1;
+    let mut r = words(from, s, n);
+    for b in &s[4 * n..] {
+        r = one_byte(r ^ u32::from(*b));
     }
     r
 }
@@ -126,9 +107,8 @@ pub fn finish(r: u32) -> u32
 }
 
 // The CRC of `s`.
-pub fn crc(t: &CrcTable, s: &[u8]) -> u32
-    requires { t.now ≡ crc_table }
+pub fn crc(s: &[u8]) -> u32
     ensures { result ≡ crc_of s.now }
 {
-    finish(run(t, 0, s))
+    finish(run(0, s))
 }

@@ -1,7 +1,7 @@
 -- The last marks of stage 4, page by page: a mark changes no entry state, so each page is judged as when the marks began. Assumes nothing.
 use mathlib.Core.Path.{◌≡◌, refl, sym, ap, ◌∙◌}
 use mathlib.Core.Logic.{inl, inr, ⊎_elim}
-use mathlib.Core.Bool.{true, false}
+use mathlib.Core.Bool.{Bool, true, false, ◌&&◌}
 use mathlib.Core.List.{List, [], ◌∷◌}
 use Prim.Native.Nat.{ℕ, ◌+◌, ◌*◌, ◌/◌, ◌%◌, ◌^◌, ◌<◌}
 use native.Mathlib.Omega.{arith}
@@ -10,9 +10,8 @@ use lib.ListN.{length, get_or, take}
 use Rattle.word.proofs.Bytes.{part-byte}
 use Rattle.entry.specs.States.{empty, state_at, count_state}
 use Rattle.entry.proofs.Counting.{count_ext}
-use Rattle.flash.specs.declared.Ran.{Ran}
 use Rattle.flash.specs.Step.{sector}
-use Rattle.flash.specs.Did.{Did}
+use Rattle.flash.specs.Did.{Did, Ran}
 use Rattle.flash.proofs.Order.{le-or-gt}
 use Rattle.flash.proofs.Every.{every_one, every_take}
 use Rattle.flash.proofs.Frame.{In, Outside, length_run, run-other}
@@ -58,17 +57,16 @@ module _ {n : ℕ} {m k : List ℕ} {r : Ran} (s : ℕ) (did : Did (mark_full s 
 
 -- one page more, in front
 module _ (l : List ℕ) (p : Page) (ps : List Page) where
-  pub mark_more : active_page p ≡ true → eqb (count_state (sector p.sector l) empty) 0 ≡ true → last_marks (p ∷ ps) l ≡ mark_full p.sector ∷ last_marks ps l
-  unfolding last_marks keep
-  mark_more a e = rw (a, e)
+  abbrev used_up : Bool
+  used_up = active_page p && eqb (count_state (sector p.sector l) empty) 0
 
-  pub mark_other : active_page p ≡ false → last_marks (p ∷ ps) l ≡ last_marks ps l
+  pub mark_more : used_up ≡ true → last_marks (p ∷ ps) l ≡ mark_full p.sector ∷ last_marks ps l
   unfolding last_marks keep
-  mark_other a = rw a
+  mark_more e = rw e
 
-  pub mark_roomy : active_page p ≡ true → eqb (count_state (sector p.sector l) empty) 0 ≡ false → last_marks (p ∷ ps) l ≡ last_marks ps l
+  pub mark_other : used_up ≡ false → last_marks (p ∷ ps) l ≡ last_marks ps l
   unfolding last_marks keep
-  mark_roomy a e = rw (a, e)
+  mark_other e = rw e
 
 pub marks_end : (l : List ℕ) → last_marks [] l ≡ []
 unfolding last_marks keep

@@ -1,43 +1,20 @@
 -- What goes with the old items of a group, one after the other. Assumes nothing.
 use mathlib.Core.Path.{◌≡◌, refl, sym, ap, ◌∙◌}
-use mathlib.Core.Bool.{Bool, true, false, cond, not, ◌&&◌}
+use mathlib.Core.Bool.{true, false, cond}
 use mathlib.Core.Option.{Option, some}
 use mathlib.Core.List.{List, [], ◌∷◌, ◌++◌, get_last?, drop_last, flat_map}
 use Prim.Native.Nat.{ℕ, suc, ◌+◌, ◌-◌, ◌<◌, ◌≤◌}
 use native.Mathlib.Omega.{arith}
-use lib.ListN.{length, get_or, take, drop, length-drop}
+use lib.ListN.{length, get_or, take, drop, length-drop, length-map}
 use Rattle.entry.specs.Fields.{span_of}
 use Rattle.flash.specs.Step.{Step}
 use Rattle.item.specs.Erase.{erasing}
-use Rattle.lists.specs.Lists.{some_of}
 use Rattle.lists.proofs.Maps.{flat_map-append}
 use Rattle.lists.proofs.Sorting.{drop_last_short}
-use Rattle.found.specs.Found.{Found, is_index, start_in, version_of, chunks, erase_all}
+use Rattle.found.specs.Found.{Found, version_of, chunks, erase_all}
 use Rattle.found.specs.Places.{item_at, items_at}
 use Rattle.found.proofs.Reading.{items_more, items-front}
-use Rattle.duplicates.specs.Turns.{index_from, takes_chunks, old_one, old_once, old_with, old_of, last_at}
-
--- ---- whether an old item takes its chunks with it
-module _ (before : List Found) (k x : Found) where
-  pub takes_none : is_index x.raw ≡ false → takes_chunks before k x ≡ false
-  unfolding takes_chunks
-  takes_none e = rw e
-
-  pub takes-kept : index_from (start_in x.raw) k.raw ≡ true → takes_chunks before k x ≡ false
-  unfolding takes_chunks
-  takes-kept e = go (is_index x.raw) (index_from (start_in x.raw) k.raw) e
-    where
-      go : (a b : Bool) → b ≡ true → (a && not b && not (some_of (λ (y : Found). index_from (start_in x.raw) y.raw) before)) ≡ false
-      go true b q = rw q
-      go false b q = refl
-
-  pub takes_else : is_index x.raw ≡ true → index_from (start_in x.raw) k.raw ≡ false
-      → takes_chunks before k x ≡ not (some_of (λ (y : Found). index_from (start_in x.raw) y.raw) before)
-  unfolding takes_chunks
-  takes_else e f = go (is_index x.raw) (index_from (start_in x.raw) k.raw) e f
-    where
-      go : (a b : Bool) → a ≡ true → b ≡ false → (a && not b && not (some_of (λ (y : Found). index_from (start_in x.raw) y.raw) before)) ≡ not (some_of (λ (y : Found). index_from (start_in x.raw) y.raw) before)
-      go a b p q = rw (p, q)
+use Rattle.duplicates.specs.Turns.{takes_chunks, old_one, old_once, old_with, old_of, last_at}
 
 -- ---- the steps of one old item
 module _ (fs : List Found) (k : Found) (before : List Found) (x : Found) where
@@ -68,10 +45,6 @@ drop_last_cons : (x : Found) (ys : List Found) → 0 < length ys → drop_last (
 drop_last_cons x [] h = absurd (omega arith)
 drop_last_cons x (y ∷ ys) h = refl
 
-length-items : (l ps : List ℕ) → length (items_at l ps) ≡ length ps
-length-items l [] = refl
-length-items l (p ∷ ps) = ap suc (length-items l ps)
-
 -- the steps of the old items from number j on
 abbrev pub left_from : List ℕ → List ℕ → List ℕ → ℕ → List Step
 left_from l places sorted j =
@@ -97,7 +70,7 @@ module _ (l places : List ℕ) where
         → left_from l places sorted j ≡ erase_all (old_one (items_at l places) (item_at l (last_at sorted)) (items_at l (take j sorted)) (item_at l (get_or sorted j 0))) ++ left_from l places sorted (j + 1)
     unfolding old_once
     left_more h =
-        let long : 0 < length (items_at l (drop (j + 1) sorted)) = rw (length-items l (drop (j + 1) sorted), length-drop (j + 1) sorted) (omega arith) in
+        let long : 0 < length (items_at l (drop (j + 1) sorted)) = rw (length-map (drop (j + 1) sorted) (item_at l), length-drop (j + 1) sorted) (omega arith) in
         let rest = drop_last (items_at l (drop (j + 1) sorted)) in
         let parts : drop_last (items_at l (drop j sorted)) ≡ x ∷ rest = ap drop_last (items_more l sorted j (omega arith)) ∙ drop_last_cons x (items_at l (drop (j + 1) sorted)) long in
         ap (λ (ys : List Found). erase_all (old_once fs k (items_at l (take j sorted)) ys)) parts
@@ -107,5 +80,5 @@ module _ (l places : List ℕ) where
     pub left_end : length sorted ≤ j + 1 → left_from l places sorted j ≡ []
     unfolding old_once erase_all flat_map
     left_end h =
-        let short : length (items_at l (drop j sorted)) ≤ 1 = rw (length-items l (drop j sorted), length-drop j sorted) (omega arith) in
+        let short : length (items_at l (drop j sorted)) ≤ 1 = rw (length-map (drop j sorted) (item_at l), length-drop j sorted) (omega arith) in
         ap (λ (ys : List Found). erase_all (old_once fs k (items_at l (take j sorted)) ys)) (drop_last_short (items_at l (drop j sorted)) short)

@@ -14,29 +14,22 @@ fn is_start(image: &[u8], place: usize, start: u8) -> bool
     requires { Placed image.now place }
     ensures { result ≡ index_from start (item_at image.now place).raw }
 {
-    if found::is_index(image, place) {
-        found::start_at(image, place) == start
-    } else {
-        false
-    }
+    found::is_index(image, place) && found::start_at(image, place) == start
 }
 
-// Whether one of the items is a blob index of the given start.
+// Whether one of the items is a blob index of the given start. From the end on: of many old indices each meets the one before it at once.
 fn any_start(image: &[u8], places: &[u16], start: u8) -> bool
     requires { Each (Placed image.now) places.now }
     ensures { result ≡ some_of (λ (x : Found). index_from start x.raw) (items_at image.now places.now) }
 {
-    let mut i = places.len();
-    while 0 < i {
-        i -= 1;
-        if is_start(image, found::place_at(places, i), start) {
-            return true;
-        }
-    }
-    false
+    places
+        .iter()
+        .rev()
+        .any(|&place| is_start(image, usize::from(place), start))
 }
 
 // Whether the old item at `place` takes its chunks with it: it is a blob index, the kept item is none of the same start, and none of those `before` took them.
+#[tactic(auto, unfolding(crate::specs::Turns::takes_chunks))]
 fn takes_chunks(image: &[u8], before: &[u16], place: usize, kept: usize) -> bool
     requires { Each (Placed image.now) before.now × Placed image.now place × Placed image.now kept }
     ensures { result ≡ takes_chunks (items_at image.now before.now) (item_at image.now kept) (item_at image.now place) }
@@ -45,10 +38,7 @@ fn takes_chunks(image: &[u8], before: &[u16], place: usize, kept: usize) -> bool
         return false;
     }
     let start = found::start_at(image, place);
-    if is_start(image, kept, start) {
-        return false;
-    }
-    !any_start(image, before, start)
+    !is_start(image, kept, start) && !any_start(image, before, start)
 }
 
 // The old item number `i`, and its chunks.
@@ -56,17 +46,15 @@ fn erase_old(image: &mut [u8], places: &[u16], sorted: &[u16], i: usize, allowed
     requires { Each (Placed image.old) places.now × Each (Placed image.old) sorted.now × (i < length sorted.now) }
     ensures { Did (erase_all (old_one (items_at image.old places.now) (item_at image.old (last_at sorted.now)) (items_at image.old (take i sorted.now)) (item_at image.old (get_or sorted.now i 0)))) allowed image.old image.new result × Alike image.old image.new }
 {
-    let place = found::place_at(sorted, i);
-    let kept = found::place_at(sorted, sorted.len() - 1);
+    let place = usize::from(sorted[i]);
+    let kept = usize::from(sorted[sorted.len() - 1]);
     let span = found::span_at(image, place);
-    let r = erasing::erase_at(image, place, span, allowed);
-    let Ran::Done(left) = r else {
-        return Ran::Stopped;
-    };
+    let left = erasing::erase_at(image, place, span, allowed)?;
     if takes_chunks(image, &sorted[..i], place, kept) {
-        return erasing::erase_chunks(image, places, found::version_at(image, place), left);
+        erasing::erase_chunks(image, places, found::version_at(image, place), left)
+    } else {
+        Ok(left)
     }
-    Ran::Done(left)
 }
 
 // All but the newest, oldest first.
@@ -75,14 +63,8 @@ pub fn erase_all_old(image: &mut [u8], places: &[u16], sorted: &[u16], allowed: 
     ensures { Did (erase_all (old_of (items_at image.old places.now) (items_at image.old sorted.now))) allowed image.old image.new result × Alike image.old image.new }
 {
     let mut left = allowed;
-    let mut i: usize = 1;
-    while i < sorted.len() {
-        let r = erase_old(image, places, sorted, i - 1, left);
-        let Ran::Done(rest) = r else {
-            return Ran::Stopped;
-        };
-        left = rest;
-        i += 1;
+    for i in 1..sorted.len() {
+        left = erase_old(image, places, sorted, i - 1, left)?;
     }
-    Ran::Done(left)
+    Ok(left)
 }

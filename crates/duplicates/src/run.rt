@@ -17,16 +17,10 @@ fn count_chunks(image: &[u8], places: &[u16]) -> usize
     requires { Each (Placed image.now) places.now }
     ensures { (result ≡ length (keep (λ (x : Found). is_chunk x.raw) (items_at image.now places.now))) × (result ≤ length places.now) }
 {
-    let mut count: usize = 0;
-    let mut i = places.len();
-    while 0 < i {
-        i -= 1;
-        if !found::is_chunk(image, found::place_at(places, i)) {
-            continue;
-        }
-        count += 1;
-    }
-    count
+    places
+        .iter()
+        .filter(|&&place| found::is_chunk(image, usize::from(place)))
+        .count()
 }
 
 // What goes of the items in order of age.
@@ -43,12 +37,8 @@ pub fn take_run(image: &mut [u8], s: &mut [u16], m: usize, allowed: u64) -> Ran
     requires { Each (Placed image.old) (take m s.old) × (1 ≤ m) × (m ≤ most_items) × (most_items + m ≤ length s.old) × Each (λ (x : Found). group_by x ≡ group_by (item_at image.old (get_or s.old 0 0))) (items_at image.old (take m s.old)) }
     ensures { Did (run_steps (items_at image.old (take m s.old))) allowed image.old image.new result × Alike image.old image.new × (drop m (take most_items s.new) ≡ drop m (take most_items s.old)) }
 {
-    if m < 2 {
-        return Ran::Done(allowed);
-    }
-    let first = s[0] as usize;
-    if found::namespace_at(image, first) == 0 {
-        return Ran::Done(allowed);
+    if m < 2 || found::namespace_at(image, usize::from(s[0])) == 0 {
+        return Ok(allowed);
     }
     sort::sort(image, s, m, Order::Age);
     take_aged(image, &s[..m], allowed)

@@ -1,25 +1,22 @@
 // What the 32 bytes of an entry say, where they stand at `at` of a sector or an image.
-ghost use Rattle.std.specs.Prelude.{◌≡◌, ◌+◌, ◌<◌, ◌≤◌, length, get_or, eqb, ltb};
+ghost use Rattle.std.specs.Prelude.{◌≡◌, ◌+◌, ◌<◌, ◌≤◌, length, get_or};
 ghost use Rattle.word.specs.Number.{part};
-ghost use Rattle.crc.specs.Table.{crc_table};
-ghost use Rattle.entry.specs.Fields.{entry_crc, key_of, key_number, chunk_size, index_size, index_count, index_start, start_of};
-
-use crc::CrcTable;
+ghost use Rattle.entry.specs.Fields.{entry_crc, key_of, chunk_size, index_size, index_count, index_start, start_of};
 
 // The sixteen bytes of a key as two numbers, first byte highest, so that keys are compared as numbers are.
-#[derive(Clone, Copy)]
+#[derive(Clone, Copy, PartialEq, Eq, PartialOrd, Ord)]
 pub struct Key {
     pub high: u64,
     pub low: u64,
 }
 
 // The CRC that the entry should have: bytes 4 to 7 hold it, so they are passed over.
-pub fn entry_crc(t: &CrcTable, s: &[u8], at: usize) -> u32
-    requires { (t.now ≡ crc_table) × (at + 32 ≤ length s.now) }
+pub fn entry_crc(s: &[u8], at: usize) -> u32
+    requires { at + 32 ≤ length s.now }
     ensures { result ≡ entry_crc (part s.now at 32) }
 {
-    let r = crc::words(t, 0, s, at, 1);
-    crc::finish(crc::words(t, r, s, at + 8, 6))
+    let r = crc::run(0, &s[at..at + 4]);
+    crc::finish(crc::run(r, &s[at + 8..at + 32]))
 }
 
 pub fn key_at(s: &[u8], at: usize) -> Key
@@ -29,28 +26,6 @@ pub fn key_at(s: &[u8], at: usize) -> Key
     Key {
         high: word::be64(s, at + 8),
         low: word::be64(s, at + 16),
-    }
-}
-
-pub fn key_less(a: Key, b: Key) -> bool
-    ensures { result ≡ ltb (key_number a) (key_number b) }
-{
-    if a.high < b.high {
-        return true;
-    }
-    if b.high < a.high {
-        return false;
-    }
-    a.low < b.low
-}
-
-pub fn key_same(a: Key, b: Key) -> bool
-    ensures { result ≡ eqb (key_number a) (key_number b) }
-{
-    if a.high == b.high {
-        a.low == b.low
-    } else {
-        false
     }
 }
 

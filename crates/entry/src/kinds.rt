@@ -47,13 +47,5 @@ pub fn kind_of(code: u8) -> Kind
 pub fn is_known(kind: Kind) -> bool
     ensures { result ≡ known kind }
 {
-    match kind {
-        Kind::Unsigned(_) => true,
-        Kind::Signed(_) => true,
-        Kind::Text => true,
-        Kind::Blob => true,
-        Kind::Chunk => true,
-        Kind::Index => true,
-        Kind::Unknown => false,
-    }
+    !matches!(kind, Kind::Unknown)
 }

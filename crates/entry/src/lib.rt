@@ -5,9 +5,6 @@ mod fields;
 mod kinds;
 mod states;
 
-pub use fields::{
-    Key, chunk_size, entry_crc, index_count, index_size, index_start, key_at, key_less, key_same,
-    start,
-};
+pub use fields::{Key, chunk_size, entry_crc, index_count, index_size, index_start, key_at, start};
 pub use kinds::{Kind, is_known, kind_of};
-pub use states::{Totals, entry_state, totals_of};
+pub use states::{EntryState, Totals, entry_state, totals_of};

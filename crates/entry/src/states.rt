@@ -1,16 +1,31 @@
 // Entry states: two bits an entry, and how many entries have each state.
-ghost use Rattle.std.specs.Prelude.{◌≡◌, ◌+◌, ◌<◌, ◌≤◌, length};
+ghost use Rattle.std.specs.Prelude.{◌≡◌, ◌+◌, ◌<◌, ◌≤◌, length, slice_index};
 ghost use Rattle.entry.specs.States.{state_at, totals_of};
-ghost use Rattle.entry.specs.Ones.{masked};
+ghost use Rattle.entry.specs.Ones.{masked, state_code};
 
 use layout::STATES_AT;
 
-// The state of entry `i` of the sector: 3 Empty, 2 Written, 0 Erased, 1 Illegal.
-pub fn entry_state(s: &[u8], i: usize) -> u8
+// In the order of the two bits.
+#[derive(Clone, Copy, PartialEq, Eq)]
+pub enum EntryState {
+    Erased,
+    Illegal,
+    Written,
+    Empty,
+}
+
+// The state of entry `i` of the sector.
+#[tactic(auto, unfolding(crate::specs::States::state_at))]
+pub fn entry_state(s: &[u8], i: usize) -> EntryState
     requires { (64 ≤ length s.now) × (i < 126) }
-    ensures { result ≡ state_at s.now i }
+    ensures { state_code result ≡ state_at s.now i }
 {
-    (s[STATES_AT + i / 4] >> (2 * (i % 4))) & 3
+    match (s[STATES_AT + i / 4] >> (2 * (i % 4))) % 4 {
+        0 => EntryState::Erased,
+        1 => EntryState::Illegal,
+        2 => EntryState::Written,
+        _ => EntryState::Empty,
+    }
 }
 
 // How many pairs of `w`, at the places of `mask`, are 11 once the word is flipped.
@@ -21,14 +36,17 @@ fn hits(w: u64, flip: u64, mask: u64) -> u32
     u64::count_ones((x & (x >> 1)) & mask)
 }
 
-// The same in the four words of a page: 32 pairs in each of three, 30 in the last, so that the two past entry 125 never count.
-fn tally(a: u64, b: u64, c: u64, d: u64, flip: u64) -> u32
-    ensures { result ≡ masked a flip 0x5555_5555_5555_5555 + masked b flip 0x5555_5555_5555_5555 + masked c flip 0x5555_5555_5555_5555 + masked d flip 0x0555_5555_5555_5555 }
+// Where a word has pairs; and the last of a page's four, of which the two pairs past entry 125 never count.
+const PAIRS: u64 = 0x5555_5555_5555_5555;
+
+const LAST_PAIRS: u64 = 0x0555_5555_5555_5555;
+
+// The same in the four words of a page. (As a sum over an iterator it did not prove: that the sum fits stayed open, as the closure's result has no bound there.)
+fn tally(words: [u64; 4], flip: u64) -> u32
+    ensures { result ≡ masked (slice_index words 0) flip PAIRS + masked (slice_index words 1) flip PAIRS + masked (slice_index words 2) flip PAIRS + masked (slice_index words 3) flip LAST_PAIRS }
 {
-    hits(a, flip, 0x5555_5555_5555_5555)
-        + hits(b, flip, 0x5555_5555_5555_5555)
-        + hits(c, flip, 0x5555_5555_5555_5555)
-        + hits(d, flip, 0x0555_5555_5555_5555)
+    let [a, b, c, d] = words;
+    hits(a, flip, PAIRS) + hits(b, flip, PAIRS) + hits(c, flip, PAIRS) + hits(d, flip, LAST_PAIRS)
 }
 
 #[derive(Clone, Copy)]
@@ -44,18 +62,16 @@ pub fn totals_of(s: &[u8]) -> Totals
     requires { 64 ≤ length s.now }
     ensures { result ≡ totals_of s.now }
 {
-    let a = word::le64(s, STATES_AT);
-    let b = word::le64(s, 40);
-    let c = word::le64(s, 48);
-    let d = word::le64(s, 56);
-    let written = tally(a, b, c, d, 0x5555_5555_5555_5555);
-    let erased = tally(a, b, c, d, 0xFFFF_FFFF_FFFF_FFFF);
-    let empty = tally(a, b, c, d, 0);
-    let illegal = tally(a, b, c, d, 0xAAAA_AAAA_AAAA_AAAA);
+    let words = [
+        word::le64(s, STATES_AT),
+        word::le64(s, STATES_AT + 8),
+        word::le64(s, STATES_AT + 16),
+        word::le64(s, STATES_AT + 24),
+    ];
     Totals {
-        written: written as u8,
-        erased: erased as u8,
-        empty: empty as u8,
-        illegal: illegal as u8,
+        written: tally(words, 0x5555_5555_5555_5555) as u8,
+        erased: tally(words, 0xFFFF_FFFF_FFFF_FFFF) as u8,
+        empty: tally(words, 0) as u8,
+        illegal: tally(words, 0xAAAA_AAAA_AAAA_AAAA) as u8,
     }
 }

@@ -10,7 +10,7 @@ ghost use Rattle.found.specs.Places.{item_at, items_at, Placed, Alike};
 ghost use Rattle.found.specs.Ranks.{rank_number};
 
 use flash::Ran;
-use found::{Rank, is_chunk_of, place_at, span_at};
+use found::{Rank, is_chunk_of, span_at};
 use layout::{FIRST_PLACE, SECTOR_PLACES};
 
 // Erases `n` entries from the item's first on.
@@ -33,20 +33,11 @@ pub fn erase_chunks(image: &mut [u8], places: &[u16], v: Rank, allowed: u64) -> 
     ensures { Did (erase_all (chunks (rank_number v) (items_at image.old places.now))) allowed image.old image.new result × Alike image.old image.new }
 {
     let mut left = allowed;
-    let mut i: usize = 0;
-    while i < places.len() {
-        let place = place_at(places, i);
-        if !is_chunk_of(image, place, v) {
-            i += 1;
-            continue;
+    for p in places {
+        let place = usize::from(*p);
+        if is_chunk_of(image, place, v) {
+            left = erase_at(image, place, span_at(image, place), left)?;
         }
-        let span = span_at(image, place);
-        let r = erase_at(image, place, span, left);
-        let Ran::Done(rest) = r else {
-            return Ran::Stopped;
-        };
-        left = rest;
-        i += 1;
     }
-    Ran::Done(left)
+    Ok(left)
 }

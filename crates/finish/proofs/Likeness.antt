@@ -1,14 +1,14 @@
 -- Comparisons a turn at a time: of two lists of bytes, and of the items that a walk has yet to meet; and what the two comparisons of stage 2 are.
 -- Assumes nothing.
 use mathlib.Core.Path.{◌≡◌, refl, sym, ap, ◌∙◌}
-use mathlib.Core.Bool.{Bool, true, false, cond}
+use mathlib.Core.Bool.{Bool, true, false, cond, not, ◌&&◌}
 use mathlib.Core.List.{List, [], ◌∷◌}
-use Prim.Native.Nat.{ℕ, zero, suc, ◌+◌, ◌-◌, ◌*◌, ◌<◌, ◌≤◌}
+use Prim.Native.Nat.{ℕ, zero, suc, ◌+◌, ◌-◌, ◌*◌, ◌≤◌}
 use native.Mathlib.Omega.{arith}
-use native.Mathlib.Numerals.{add-one}
-use lib.ListN.{length, take, drop, get_or}
-use lib.Seq.{drop-cons, get_or-take, take-take, take-nil}
-use borrow.Author.Tests.{eq-eqb, ne_eqb}
+use lib.Dec.{eqb}
+use lib.Pointwise.{pointwise}
+use lib.ListN.{take, drop}
+use lib.Seq.{get_or-take, take-take, take-nil}
 use Rattle.word.specs.Number.{part}
 use Rattle.entry.specs.Fields.{entry_at, span_of}
 use Rattle.page.specs.Walk.{Laid, laid_at, is_item, walk}
@@ -17,18 +17,21 @@ use Rattle.lists.specs.Lists.{every, some_of}
 use Rattle.finish.specs.declared.judge.Alike.{Alike}
 use Rattle.finish.specs.declared.judge.Alike.TheVariants.{Header, Name}
 use Rattle.finish.specs.Finish.{same_bytes, copy_of, name_of, holds_all}
-use Rattle.finish.specs.Alike.{alike_by, some_like, all_like}
+use Rattle.finish.specs.Alike.{alike_by, some_item, some_like, all_like}
 
 -- ---- bytes
 
-module _ (a b : List ℕ) (i : ℕ) (ha : i < length a) (hb : i < length b) where
-  pub bytes_same : get_or a i 0 ≡ get_or b i 0 → same_bytes (drop i a) (drop i b) ≡ same_bytes (drop (i + 1) a) (drop (i + 1) b)
-  unfolding same_bytes
-  bytes_same e = rw (add-one i, drop-cons a i 0 ha, drop-cons b i 0 hb, eq-eqb _ _ e)
-
-  pub bytes_differ : (get_or a i 0 ≡ get_or b i 0 → ⊥) → same_bytes (drop i a) (drop i b) ≡ false
-  unfolding same_bytes
-  bytes_differ e = rw (drop-cons a i 0 ha, drop-cons b i 0 hb, ne_eqb _ _ e)
+-- what `==` says of two slices
+pub same_is : (a b : List ℕ) → pointwise eqb a b ≡ same_bytes a b
+unfolding same_bytes
+same_is [] [] = refl
+same_is [] (y ∷ ys) = refl
+same_is (x ∷ xs) [] = refl
+same_is (x ∷ xs) (y ∷ ys) = go (eqb x y) (same_is xs ys)
+  where
+    go : (b : Bool) → pointwise eqb xs ys ≡ same_bytes xs ys → (b && pointwise eqb xs ys) ≡ cond b (same_bytes xs ys) false
+    go true ih = ih
+    go false ih = refl
 
 -- ---- the items of a walk
 
@@ -40,41 +43,38 @@ raw-header t i e = let s = item_span t i e in take-take 32 (span_of (entry_at t 
 pub lent-entry : (t : List ℕ) (i : ℕ) → part t (64 + i * 32) (64 + i * 32 + 32 - (64 + i * 32)) ≡ entry_at t i
 lent-entry t i = let n : 64 + i * 32 + 32 - (64 + i * 32) ≡ 32 = omega arith in rw n
 
-module _ (k : Alike) (h t : List ℕ) (i : ℕ) where
-  some_turn : is_item t i ≡ true → some_like k h (walk t 126 i) ≡ cond (alike_by k h (entry_at t i)) true (some_like k h (walk t 126 (i + span_of (entry_at t i))))
-  unfolding some_like some_of
-  some_turn e = rw (walk_item t i e, raw-header t i e)
+module _ (p : List ℕ → Bool) (t : List ℕ) (i : ℕ) where
+  item_turn : is_item t i ≡ true → some_item p (walk t 126 i) ≡ cond (p (entry_at t i)) true (some_item p (walk t 126 (i + span_of (entry_at t i))))
+  unfolding some_item some_of
+  item_turn e = rw (walk_item t i e, raw-header t i e)
 
-  pub some_here : is_item t i ≡ true → alike_by k h (entry_at t i) ≡ true → some_like k h (walk t 126 i) ≡ true
-  some_here e q = some_turn e ∙ rw q
+  pub item_here : is_item t i ≡ true → p (entry_at t i) ≡ true → some_item p (walk t 126 i) ≡ true
+  item_here e q = item_turn e ∙ rw q
 
-  pub some_on : is_item t i ≡ true → alike_by k h (entry_at t i) ≡ false → some_like k h (walk t 126 i) ≡ some_like k h (walk t 126 (i + span_of (entry_at t i)))
-  some_on e q = some_turn e ∙ rw q
+  pub item_on : is_item t i ≡ true → p (entry_at t i) ≡ false → some_item p (walk t 126 i) ≡ some_item p (walk t 126 (i + span_of (entry_at t i)))
+  item_on e q = item_turn e ∙ rw q
 
-  pub some_skip : is_item t i ≡ false → some_like k h (walk t 126 i) ≡ some_like k h (walk t 126 (i + 1))
-  some_skip e = ap (some_like k h) (walk_skip t i e)
+  pub item_skip : is_item t i ≡ false → some_item p (walk t 126 i) ≡ some_item p (walk t 126 (i + 1))
+  item_skip e = ap (some_item p) (walk_skip t i e)
 
-  pub some_end : 126 ≤ i → some_like k h (walk t 126 i) ≡ false
-  unfolding some_like some_of
-  some_end g = rw (walk-past t 126 i g)
+  pub item_end : 126 ≤ i → some_item p (walk t 126 i) ≡ false
+  unfolding some_item some_of
+  item_end g = rw (walk-past t 126 i g)
 
-module _ (k : Alike) (t : List ℕ) (ys : List Laid) (i : ℕ) where
-  all_turn : is_item t i ≡ true → all_like k (walk t 126 i) ys ≡ cond (some_like k (entry_at t i) ys) (all_like k (walk t 126 (i + span_of (entry_at t i))) ys) false
-  unfolding all_like every
-  all_turn e = rw (walk_item t i e, raw-header t i e)
+-- some item is like h, and each is where none is not
+pub some_is : (k : Alike) (h : List ℕ) (ys : List Laid) → some_item (alike_by k h) ys ≡ some_like k h ys
+unfolding some_item some_like
+some_is k h ys = refl
 
-  pub all_not : is_item t i ≡ true → some_like k (entry_at t i) ys ≡ false → all_like k (walk t 126 i) ys ≡ false
-  all_not e q = all_turn e ∙ rw q
-
-  pub all_on : is_item t i ≡ true → some_like k (entry_at t i) ys ≡ true → all_like k (walk t 126 i) ys ≡ all_like k (walk t 126 (i + span_of (entry_at t i))) ys
-  all_on e q = all_turn e ∙ rw q
-
-  pub all_skip : is_item t i ≡ false → all_like k (walk t 126 i) ys ≡ all_like k (walk t 126 (i + 1)) ys
-  all_skip e = ap (λ (w : List Laid). all_like k w ys) (walk_skip t i e)
-
-  pub all_end : 126 ≤ i → all_like k (walk t 126 i) ys ≡ true
-  unfolding all_like every
-  all_end g = rw (walk-past t 126 i g)
+pub all_is : (k : Alike) (xs ys : List Laid) → not (some_item (λ h. not (some_like k h ys)) xs) ≡ all_like k xs ys
+unfolding some_item some_of all_like every
+all_is k [] ys = refl
+all_is k (x ∷ xs) ys = go (some_like k (take 32 x.raw) ys) (all_is k xs ys)
+  where
+    go : (b : Bool) → not (some_of (λ (z : Laid). not (some_like k (take 32 z.raw) ys)) xs) ≡ every (λ (z : Laid). some_like k (take 32 z.raw) ys) xs
+        → not (cond (not b) true (some_of (λ (z : Laid). not (some_like k (take 32 z.raw) ys)) xs)) ≡ cond b (every (λ (z : Laid). some_like k (take 32 z.raw) ys) xs) false
+    go true ih = ih
+    go false ih = refl
 
 -- ---- the two comparisons
 

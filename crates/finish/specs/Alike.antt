@@ -11,6 +11,10 @@ unfoldable pub alike_by : Alike → List ℕ → List ℕ → Bool
 alike_by Header h g = same_bytes h g
 alike_by Name h g = same_bytes (name_of h) (name_of g)
 
+-- an item's header passes the test
+unfoldable pub some_item : (List ℕ → Bool) → List Laid → Bool
+some_item p ys = some_of (λ (y : Laid). p (take 32 y.raw)) ys
+
 unfoldable pub some_like : Alike → List ℕ → List Laid → Bool
 some_like k h ys = some_of (λ (y : Laid). alike_by k h (take 32 y.raw)) ys
 

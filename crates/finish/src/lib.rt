@@ -7,4 +7,4 @@ mod rounds;
 
 pub use judge::{Alike, matches};
 pub use newest::newest_holds;
-pub use rounds::{Rounded, round};
+pub use rounds::round;

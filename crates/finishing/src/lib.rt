@@ -2,71 +2,40 @@
 #![tactic(auto)]
 
 ghost use Rattle.std.specs.Prelude.{◌≡◌, ◌+◌, ◌≤◌};
-ghost use Rattle.crc.specs.Table.{crc_table};
 ghost use Rattle.lists.specs.Lists.{greatest};
 ghost use Rattle.answer.specs.Went.{Made};
-ghost use Rattle.table.specs.Table.{sectors_of, sequence, freeing, listed, freed, Sized};
+ghost use Rattle.table.specs.Table.{sectors_of, sequence, listed, freed};
 ghost use Rattle.table.specs.PagesPlaced.{PagesPlaced};
 ghost use Rattle.finishing.specs.Finishing.{freeings, finishing};
 
 use answer::{Stage, Went};
-use crc::CrcTable;
-use flash::Ran;
 use page::PageState;
-use table::{Sought, Table};
-
-fn is_freeing(state: PageState) -> bool
-    ensures { result ≡ freeing state }
-{
-    match state {
-        PageState::Blank => false,
-        PageState::Corrupt => false,
-        PageState::Active => false,
-        PageState::Full => false,
-        PageState::Freeing => true,
-    }
-}
+use table::Table;
 
 // How many pages of the list count as Freeing.
-pub fn count_freeing(table: Table) -> usize
-    requires { Sized table }
-    ensures { (result ≡ freeings (listed table)) × (result ≤ 16) }
+pub fn count_freeing(table: &Table) -> usize
+    ensures { (result ≡ freeings (listed table.now)) × (result ≤ 16) }
 {
-    let mut n: usize = 0;
-    let mut i = table.count;
-    while 0 < i {
-        i -= 1;
-        let p = table.pages[i];
-        let seen = p.seen;
-        let state = seen.state;
-        if is_freeing(state) {
-            n += 1;
-        }
-    }
-    n
+    table
+        .pages
+        .iter()
+        .filter(|p| p.seen.state == PageState::Freeing)
+        .count()
 }
 
-// So many rounds: each takes one page that counts as Freeing away.
-pub fn finish_all(t: &CrcTable, image: &mut [u8], table: Table, rounds: usize, allowed: u64) -> Went
-    requires { (t.now ≡ crc_table) × Sized table × PagesPlaced (sectors_of image.old) (listed table) (freed table) × (greatest sequence (listed table) + rounds ≤ 0xFFFF_FFFE) }
-    ensures { Made (finishing rounds (listed table) (freed table) image.old) allowed image.old image.new result }
+// So many rounds: each takes one page that counts as Freeing away. Nothing is said of the lists that they leave.
+pub fn finish_all(image: &mut [u8], table: &mut Table, rounds: usize, allowed: u64) -> Went
+    requires { PagesPlaced (sectors_of image.old) (listed table.old) (freed table.old) × (greatest sequence (listed table.old) + rounds ≤ 0xFFFF_FFFE) }
+    ensures { Made (finishing rounds (listed table.old) (freed table.old) image.old) allowed image.old image.new result }
 {
     let mut left = allowed;
-    let mut stand = table;
-    let mut n = rounds;
-    while 0 < n {
-        n -= 1;
+    for _ in 0..rounds {
         // there is one as long as rounds are left; to say so would be a premise more
-        let Sought::One(x) = table::first_in(stand, PageState::Freeing) else {
-            return Went::Ended(left);
+        let Some(x) = table.first_in(PageState::Freeing) else {
+            return Ok(left);
         };
-        let r = finish::round(t, image, x, stand, left);
-        let ran = r.ran;
-        let Ran::Done(rest) = ran else {
-            return Went::Short(Stage::Finish(x.sector as usize));
-        };
-        left = rest;
-        stand = r.table;
+        let stage = Stage::Finish(usize::from(x.sector));
+        left = answer::in_stage(stage, finish::round(image, x, table, left))?;
     }
-    Went::Ended(left)
+    Ok(left)
 }

@@ -21,6 +21,16 @@ pub put_same_at : (l : List ℕ) (i b : ℕ) → i < length l → get_or (put l 
 unfolding put
 put_same_at l i b h = get_or-set_same l i _ 0 h
 
+-- the first k bytes of a word, each set at its place
+abbrev pub puts : List ℕ → ℕ → List ℕ → ℕ → List ℕ
+puts l at w zero = l
+puts l at w (suc k) = put (puts l at w k) (at + k) (get_or w k 0)
+
+-- all four of them
+pub puts_word : (l : List ℕ) (at : ℕ) (w : List ℕ) (k : ℕ) → k ≡ 4 → puts l at w k ≡ and_word l at (get_or w 0 0) (get_or w 1 0) (get_or w 2 0) (get_or w 3 0)
+unfolding and_word
+puts_word l at w k e = rw (e, add-zero)
+
 -- byte i of four
 abbrev pub nth4 : ℕ → ℕ → ℕ → ℕ → ℕ → ℕ
 nth4 a b c d zero = a

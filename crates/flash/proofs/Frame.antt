@@ -7,9 +7,8 @@ use native.Mathlib.Omega.{arith}
 use lib.ListN.{length, get_or, take, drop, length-take, length-drop}
 use lib.Seq.{ext_get_or, get_or-take, get_or-drop, take_all}
 use Rattle.word.specs.Number.{part}
-use Rattle.flash.specs.declared.Ran.{Ran}
 use Rattle.flash.specs.Step.{Step, program, erase, run, apply, sector}
-use Rattle.flash.specs.Did.{Did}
+use Rattle.flash.specs.Did.{Did, Ran}
 use Rattle.flash.proofs.Order.{le-or-gt}
 use Rattle.flash.proofs.Bytes.{length-and_word, word-other}
 use Rattle.flash.proofs.Erased.{length-erased, erased-other}

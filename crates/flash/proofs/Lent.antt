@@ -7,9 +7,8 @@ use lib.ListN.{take, drop, set, length-map}
 use lib.Seq.{get_or-take, get_or-drop, drop-set-add, take-set-lt, drop-drop}
 use borrow.Rule.Slice.PartMut.{mid_of, post_of, put_mid, put_same}
 use Rattle.word.specs.Number.{part}
-use Rattle.flash.specs.declared.Ran.{Ran}
 use Rattle.flash.specs.Step.{Step, program, erase, run, apply, put, and_word, and8, sector}
-use Rattle.flash.specs.Did.{Did}
+use Rattle.flash.specs.Did.{Did, Ran}
 use Rattle.flash.proofs.Every.{Every, every_take}
 use Rattle.flash.proofs.Frame.{AllIn, take-kept, drop-kept}
 

@@ -1,12 +1,18 @@
 -- Bridge: what a call with an allowance did. Assumes nothing.
-use Rattle.std.specs.Prelude.{◌≡◌, cond, List, ℕ, ◌-◌, leb, length, take}
-use Rattle.flash.specs.declared.Ran.{Ran}
-use Rattle.flash.specs.declared.Ran.TheVariants.{Done, Stopped}
+use Rattle.std.specs.Prelude.{◌≡◌, cond, List, ℕ, ◌-◌, leb, length, take, Result, Ok, Err}
+use Rattle.flash.specs.declared.Stopped.{Stopped}
 use Rattle.flash.specs.Step.{Step, run}
+
+-- what became of a list of steps: how many are still allowed, or that the allowance ended before the steps did
+abbrev pub Ran : Type 0
+Ran = Result ℕ Stopped
+
+abbrev pub stopped : Ran
+stopped = Err (record {})
 
 -- n allowed and k steps to make. "If the list fits the allowance exactly, the call has ended."
 unfoldable pub ran : ℕ → ℕ → Ran
-ran n k = cond (leb k n) (Done (n - k)) Stopped
+ran n k = cond (leb k n) (Ok (n - k)) stopped
 
 -- "A call has an allowance; it makes the first so many steps of the list that the rules give for the image it began with, and reports how many it
 -- made": of the steps ss the first n were made on the image l, which left m, and r says whether these were all

@@ -7,8 +7,7 @@ use native.Mathlib.Omega.{arith}
 use lib.ListN.{length, get_or, take}
 use Rattle.word.specs.Number.{part}
 use Rattle.entry.specs.Fields.{span_of}
-use Rattle.flash.specs.declared.Ran.{Ran}
-use Rattle.flash.specs.Did.{Did}
+use Rattle.flash.specs.Did.{Did, Ran}
 use Rattle.flash.proofs.Order.{le-or-gt}
 use Rattle.flash.proofs.Every.{every_take}
 use Rattle.flash.proofs.Frame.{In, Outside, length_run, part_same, run-other}

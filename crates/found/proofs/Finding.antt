@@ -1,7 +1,7 @@
 -- The items found are those at their places: the walk gives each its entry, and a page of the list its sector and sequence. Assumes nothing.
 use mathlib.Core.Path.{◌≡◌, refl, sym, ap, ap₂, ◌∙◌}
 use mathlib.Core.Bool.{Bool, true, false, cond}
-use mathlib.Core.List.{List, [], ◌∷◌, ◌++◌, append_assoc, map, map-map, map-append, flat_map}
+use mathlib.Core.List.{List, [], ◌∷◌, ◌++◌, map, map-append, flat_map}
 use Prim.Native.Nat.{ℕ, zero, suc, ◌+◌, ◌-◌, ◌*◌, ◌/◌, ◌%◌, ◌≤◌}
 use native.Mathlib.Omega.{arith}
 use Rattle.word.specs.Number.{part}
@@ -85,14 +85,3 @@ module _ (l : List ℕ) where
   found_placed (p ∷ ps) h =
       rw (map-append place_of (found_on l p) (found ps l))
       (each_append (Placed l) (map place_of (found_on l p)) (map place_of (found ps l)) (walk_placed l p h.0 126 0) (found_placed ps h.1))
-
-  -- one page more: what the walk of its sector stores
-  pub places_more : (p : Page) (ps : List Page) (front : List ℕ)
-      → (front ++ map (λ (x : Laid). p.sector * 128 + 2 + x.entry) (walk (sector p.sector l) 126 0)) ++ map place_of (found ps l) ≡ front ++ map place_of (found (p ∷ ps) l)
-  unfolding found flat_map found_on items_in
-  places_more p ps front =
-      append_assoc front _ _
-      ∙ ap (λ (xs : List ℕ). front ++ xs) (
-      ap (λ (xs : List ℕ). xs ++ map place_of (found ps l)) (sym (map-map place_of (found_as p) (walk (sector p.sector l) 126 0)))
-      ∙ sym (map-append place_of (found_on l p) (found ps l))
-      )

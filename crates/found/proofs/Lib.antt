@@ -1,4 +1,5 @@
 pub mod Reading
+pub mod Backward
 pub mod Alike
 pub mod Finding
 pub mod Ranking

@@ -28,10 +28,7 @@ pub fn is_part(image: &[u8], place: usize) -> bool
     requires { Placed image.now place }
     ensures { result ≡ is_part (item_at image.now place).raw }
 {
-    if is_chunk(image, place) {
-        return true;
-    }
-    is_index(image, place)
+    is_chunk(image, place) || is_index(image, place)
 }
 
 pub fn namespace_at(image: &[u8], place: usize) -> u8
@@ -45,17 +42,15 @@ pub fn span_at(image: &[u8], place: usize) -> usize
     requires { Placed image.now place }
     ensures { (result ≡ span_of (item_at image.now place).raw) × (1 ≤ result) × (place % 128 + result ≤ 128) }
 {
-    word::size(image[place * ENTRY_BYTES + 2])
+    usize::from(image[place * ENTRY_BYTES + 2])
 }
 
 pub fn start_at(image: &[u8], place: usize) -> u8
     requires { Placed image.now place }
     ensures { result ≡ start_in (item_at image.now place).raw }
 {
-    if is_chunk(image, place) {
-        return entry::start(image[place * ENTRY_BYTES + 3]);
-    }
-    entry::start(image[place * ENTRY_BYTES + 29])
+    let at = if is_chunk(image, place) { 3 } else { 29 };
+    entry::start(image[place * ENTRY_BYTES + at])
 }
 
 // A chunk's number, counted from its version's start.
@@ -63,7 +58,7 @@ pub fn number_at(image: &[u8], place: usize) -> usize
     requires { Placed image.now place }
     ensures { result ≡ chunk_number (item_at image.now place).raw }
 {
-    word::size(image[place * ENTRY_BYTES + 3]) % VERSION_CHUNKS
+    usize::from(image[place * ENTRY_BYTES + 3]) % VERSION_CHUNKS
 }
 
 // The version that a chunk or a blob index is of.
@@ -72,7 +67,7 @@ pub fn version_at(image: &[u8], place: usize) -> Rank
     ensures { (rank_number result ≡ version_of (item_at image.now place).raw) × (result.high < 65536) }
 {
     Rank {
-        high: word::wide(namespace_at(image, place)) * 256 + word::wide(start_at(image, place)),
+        high: u32::from(namespace_at(image, place)) * 256 + u32::from(start_at(image, place)),
         key: entry::key_at(image, place * ENTRY_BYTES),
     }
 }
@@ -82,7 +77,7 @@ pub fn group_at(image: &[u8], place: usize) -> Rank
     ensures { (rank_number result ≡ group_of (item_at image.now place).raw) × (result.high < 256) }
 {
     Rank {
-        high: word::wide(namespace_at(image, place)),
+        high: u32::from(namespace_at(image, place)),
         key: entry::key_at(image, place * ENTRY_BYTES),
     }
 }
@@ -99,11 +94,7 @@ pub fn is_newer(image: &[u8], later: usize, place: usize) -> bool
     requires { Placed image.now later × Placed image.now place }
     ensures { result ≡ newer (item_at image.now later) (item_at image.now place) }
 {
-    let after = sequence_at(image, later);
-    let before = sequence_at(image, place);
-    if after == before {
-        place % SECTOR_PLACES <= later % SECTOR_PLACES
-    } else {
-        before < after
-    }
+    let before = (sequence_at(image, place), place % SECTOR_PLACES);
+    let after = (sequence_at(image, later), later % SECTOR_PLACES);
+    before <= after
 }

@@ -6,6 +6,7 @@ ghost use Rattle.flash.specs.Did.{Did};
 ghost use Rattle.flash.specs.Words.{words};
 ghost use Rattle.item.specs.Copy.{full_mark, copying};
 
+use crate::marks::{FULL, mark_state};
 use flash::Ran;
 use layout::{ENTRIES_AT, ENTRY_BYTES, PAGE_ENTRIES, SECTOR_BYTES};
 use marking::mark_written;
@@ -17,22 +18,12 @@ fn copy_words(image: &mut [u8], from: usize, to: usize, end: usize, n: usize, al
     ensures { Did (words to (part image.old from (n * 4)) 0 n) allowed image.old image.new result }
 {
     let mut left = allowed;
-    let mut k = 0;
-    while k < n {
-        let i = k * 4;
-        let a = from + i;
-        let b0 = image[a];
-        let b1 = image[a + 1];
-        let b2 = image[a + 2];
-        let b3 = image[a + 3];
-        let r = flash::program_word(&mut image[to..end], i, b0, b1, b2, b3, left);
-        let Ran::Done(rest) = r else {
-            return Ran::Stopped;
-        };
-        left = rest;
-        k += 1;
+    for k in 0..n {
+        let a = from + k * 4;
+        let word = [image[a], image[a + 1], image[a + 2], image[a + 3]];
+        left = flash::program_word(&mut image[to..end], k * 4, word, left)?;
     }
-    Ran::Done(left)
+    Ok(left)
 }
 
 // Marks the page at `base` Full, if `next` is past its last entry.
@@ -41,9 +32,9 @@ fn mark_if_used(image: &mut [u8], base: usize, next: usize, left: u64) -> Ran
     ensures { Did (full_mark base next) left image.old image.new result }
 {
     if next == PAGE_ENTRIES {
-        return flash::program_word(image, base, 0xFC, 0xFF, 0xFF, 0xFF, left);
+        return mark_state(image, base, FULL, left);
     }
-    Ran::Done(left)
+    Ok(left)
 }
 
 // Copies the item of `n` entries at entry `i` of the sector at `source` to entry `j` of the sector at `target`.
@@ -61,13 +52,7 @@ pub fn copy_item(
 {
     let from = source + ENTRIES_AT + i * ENTRY_BYTES;
     let to = target + ENTRIES_AT + j * ENTRY_BYTES;
-    let r1 = copy_words(image, from, to, target + SECTOR_BYTES, n * 8, allowed);
-    let Ran::Done(left1) = r1 else {
-        return Ran::Stopped;
-    };
-    let r2 = mark_written(image, target, j, n, left1);
-    let Ran::Done(left2) = r2 else {
-        return Ran::Stopped;
-    };
-    mark_if_used(image, target, j + n, left2)
+    let copied = copy_words(image, from, to, target + SECTOR_BYTES, n * 8, allowed)?;
+    let marked = mark_written(image, target, j, n, copied)?;
+    mark_if_used(image, target, j + n, marked)
 }

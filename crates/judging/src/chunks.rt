@@ -13,9 +13,6 @@ pub fn drop_version(image: &mut [u8], places: &[u16], v: Rank, index: usize, all
     requires { Each (Placed image.old) places.now × Placed image.old index }
     ensures { Did (drop_version (rank_number v) (item_at image.old index) (items_at image.old places.now)) allowed image.old image.new result × Alike image.old image.new }
 {
-    let r = erasing::erase_at(image, index, 1, allowed);
-    let Ran::Done(left) = r else {
-        return Ran::Stopped;
-    };
+    let left = erasing::erase_at(image, index, 1, allowed)?;
     erasing::erase_chunks(image, places, v, left)
 }

@@ -17,13 +17,6 @@ pub struct Lent {
     pub records: [PageRecord; MOST_LENT],
 }
 
-// The answer and the records, as they stand after the call.
-fn both(answer: Answer, records: [PageRecord; MOST_LENT]) -> Lent
-    ensures { (result.answer ≡ answer) × (result.records ≡ records) }
-{
-    Lent { answer, records }
-}
-
 // Recovers the image with the first `lent` of the records lent to the call.
 pub fn recover_lent(
     image: &mut [u8],
@@ -36,5 +29,5 @@ pub fn recover_lent(
 {
     let mut records = given;
     let answer = recover::recover(image, &mut records[..lent], allowance);
-    both(answer, records)
+    Lent { answer, records }
 }

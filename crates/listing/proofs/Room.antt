@@ -32,7 +32,7 @@ use Rattle.recover.specs.Promise.{most_steps, recover_answer, calling}
 use Rattle.recover.proofs.Answered.{recover_told}
 use Rattle.recover.proofs.Ends.{steps_most}
 use Rattle.io.specs.Digits.{hex_digit_ascii}
-use Rattle.text.specs.Text.{word, space, newline, spelled, decimal, field}
+use Rattle.text.specs.Text.{space, newline, spelled, decimal}
 use Rattle.lines.specs.Lines.{state_name, counts, page_text, line, head}
 use Rattle.listing.specs.Listing.{lines, lines_for, allowance, lent, image_after, answered, listing, room}
 use Rattle.records.proofs.Reading.{length-each}
@@ -56,18 +56,13 @@ decimal_most : (n k : ℕ) → n < 10 ^ suc k → length (decimal n) ≤ suc k
 unfolding decimal
 decimal_most n k h = spelled_most n n k h
 
-length-field : (name : List ℕ) (n : ℕ) → length (field name n) ≡ 2 + (length name + length (decimal n))
-length-field name n = omega (arith, length-append name (space ++ decimal n))
-
 -- ---- the head
 
 head_most : (sectors : ℕ) (a : Answer) → sectors < 10 ^ 16 → steps_of a ≤ most_steps → length (head sectors a) ≤ 46
 unfolding head
 head_most sectors a h k =
-    let result = field (word "result") (number_of a) in
-    let steps = field (word "steps") (steps_of a) in
-    omega
-    (arith, decimal_most sectors 15 h, decimal_most (number_of a) 0 (omega (arith, number_most a)), decimal_most (steps_of a) 4 (omega (arith, k)), length-field (word "result") (number_of a), length-field (word "steps") (steps_of a), length-append (decimal sectors) (result ++ (steps ++ newline)), length-append result (steps ++ newline), length-append steps newline)
+    simp length-append
+    (omega (arith, decimal_most sectors 15 h, decimal_most (number_of a) 0 (omega (arith, number_most a)), decimal_most (steps_of a) 4 (omega (arith, k))))
 
 -- ---- a line
 
@@ -106,29 +101,21 @@ module _ (r : PageRecord) (h : Short r) where
   counts_most : length (counts r) ≤ 45
   unfolding counts
   counts_most =
-      let w = field (word "written") r.written in
-      let e = field (word "erased") r.erased in
-      let m = field (word "empty") r.empty in
-      let i = field (word "illegal") r.illegal in
-      omega
-      (arith, length-append w (e ++ (m ++ i)), length-append e (m ++ i), length-append m i, length-field (word "written") r.written, length-field (word "erased") r.erased, length-field (word "empty") r.empty, length-field (word "illegal") r.illegal, decimal_most r.written 2 h.written, decimal_most r.erased 2 h.erased, decimal_most r.empty 2 h.empty, decimal_most r.illegal 2 h.illegal)
+      simp length-append
+      (omega (arith, decimal_most r.written 2 h.written, decimal_most r.erased 2 h.erased, decimal_most r.empty 2 h.empty, decimal_most r.illegal 2 h.illegal))
 
   page_most : length (page_text r) ≤ 67
   unfolding page_text
   page_most =
-      let u = field (word "unread") r.unread in
-      omega
-      (arith, length-append (decimal r.sequence) (counts r ++ u), length-append (counts r) u, length-field (word "unread") r.unread, decimal_most r.unread 2 h.unread, decimal_most r.sequence 9 h.sequence, counts_most)
+      simp length-append (omega (arith, decimal_most r.unread 2 h.unread, decimal_most r.sequence 9 h.sequence, counts_most))
 
   line_most : (n : ℕ) → n < 10 ^ 2 → length (line n r) ≤ 78
   unfolding line
   line_most n k = go (is_free r.state)
     where
       go : (b : Bool) → length (decimal n ++ (space ++ (state_name r.state ++ (cond b [] (page_text r) ++ newline)))) ≤ 78
-      go true = omega (arith, length-append (decimal n) (space ++ (state_name r.state ++ newline)), length-append (state_name r.state) newline, decimal_most n 1 k, name_most r.state)
-      go false =
-          omega
-          (arith, length-append (decimal n) (space ++ (state_name r.state ++ (page_text r ++ newline))), length-append (state_name r.state) (page_text r ++ newline), length-append (page_text r) newline, decimal_most n 1 k, name_most r.state, page_most)
+      go true = simp length-append (omega (arith, decimal_most n 1 k, name_most r.state))
+      go false = simp length-append (omega (arith, decimal_most n 1 k, name_most r.state, page_most))
 
 -- ---- the lines of n sectors
 lines_most : (m : List ℕ) → Small m → (n : ℕ) → n ≤ 16 → length (lines 0 (records_to m n)) ≤ 78 * n
@@ -137,7 +124,7 @@ lines_most m h zero k = unfold lines in omega arith
 lines_most m h (suc n) k =
     let r = record_of (sector n m) in
     let one = line_most r (record_short (sector n m) (part_small m (n * 4096) 4096 h)) (0 + length (records_to m n)) (omega (arith, length-each record_of m n)) in
-    omega (arith, ap length (lines-behind 0 (records_to m n) r), length-append (lines 0 (records_to m n)) (line (0 + length (records_to m n)) r), lines_most m h n (omega arith), one)
+    omega (arith, ap length (lines-behind 0 (records_to m n) r), length-append {A = ℕ}, lines_most m h n (omega arith), one)
 
 -- an image that is not refused has 16 sectors at most
 few-sectors : (l : List ℕ) → refusal (answered l) ≡ false → sectors_of l ≤ 16
@@ -164,5 +151,5 @@ for_most l h = go (refusal (answered l)) refl
 pub listing-fits : (l : List ℕ) (bytes : ℕ) → Small l → bytes < 2 ^ 64 → length (listing l bytes) ≤ room
 unfolding listing
 listing-fits l bytes h k =
-    omega
-    (arith, length-append (head (bytes / 4096) (answered l)) (lines_for (answered l) (image_after l)), head_most (bytes / 4096) (answered l) (omega (arith, k)) (steps_most l lent allowance (recover_told l lent allowance)), for_most l h)
+    simp length-append
+    (omega (arith, head_most (bytes / 4096) (answered l) (omega (arith, k)) (steps_most l lent allowance (recover_told l lent allowance)), for_most l h))

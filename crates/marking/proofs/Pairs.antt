@@ -1,11 +1,13 @@
 -- The mask of an entry: which byte of the word it is in, and pair by pair: what is taken off its own does not borrow from the next, and every other is ones.
 -- Assumes nothing.
-use mathlib.Core.Path.{◌≡◌, refl, ◌∙◌}
+use mathlib.Core.Path.{◌≡◌, refl, sym, ◌∙◌}
 use mathlib.Core.Bool.{Bool, true, false, cond}
 use Prim.Native.Nat.{ℕ, ◌+◌, ◌-◌, ◌*◌, ◌/◌, ◌%◌, ◌^◌, ◌≤◌, ◌<◌}
+use native.Mathlib.Nat.{add-zero}
 use native.Mathlib.Omega.{arith}
 use lib.Dec.{eqb}
-use borrow.Author.Tests.{eq-eqb, ne_eqb, eqb-true}
+use borrow.Author.Tests.{eq-eqb, ne_eqb, eqb-true, eqb-false}
+use Rattle.std.specs.Int.{byte_at}
 use Rattle.lists.specs.Lists.{all_to}
 use Rattle.lists.proofs.Passing.{all_at}
 use Rattle.flash.specs.Step.{program}
@@ -41,21 +43,36 @@ mask-not : (d e b : ℕ) → (b ≡ e / 4 → ⊥) → mask_of d e b ≡ 255
 unfolding mask_of
 mask-not d e b h = rw (ne_eqb b (e / 4) h)
 
-module _ (base d e : ℕ) where
-  abbrev b : ℕ
-  b = e / 16 * 4
+-- ones in 32 bits, less d in pair r
+abbrev word_less : ℕ → ℕ → ℕ
+word_less d r = 4294967295 - d * 2 ^ (2 * r) % 4294967296
 
-  pub step_first : e / 4 % 4 ≡ 0 → state_step base d e ≡ program (base + 32 + b) (own_byte d e) 255 255 255
-  step_first h = rw (mask_is d e b (omega arith), mask-not d e (b + 1) (λ q. omega arith), mask-not d e (b + 2) (λ q. omega arith), mask-not d e (b + 3) (λ q. omega arith))
+abbrev byte_right : ℕ → ℕ → ℕ → Bool
+byte_right d r i = eqb (byte_at i (word_less d r)) (cond (eqb i (r / 4)) (255 - d * 2 ^ (2 * (r % 4))) 255)
 
-  pub step-second : e / 4 % 4 ≡ 1 → state_step base d e ≡ program (base + 32 + b) 255 (own_byte d e) 255 255
-  step-second h = rw (mask-not d e b (λ q. omega arith), mask_is d e (b + 1) (omega arith), mask-not d e (b + 2) (λ q. omega arith), mask-not d e (b + 3) (λ q. omega arith))
+-- byte by byte, all 256 of them, computed
+bytes_right : all_to (λ (d : ℕ). all_to (λ (r : ℕ). all_to (byte_right d r) 4) 16) 4 ≡ true
+unfolding all_to
+bytes_right = refl
 
-  pub step-third : e / 4 % 4 ≡ 2 → state_step base d e ≡ program (base + 32 + b) 255 255 (own_byte d e) 255
-  step-third h = rw (mask-not d e b (λ q. omega arith), mask-not d e (b + 1) (λ q. omega arith), mask_is d e (b + 2) (omega arith), mask-not d e (b + 3) (λ q. omega arith))
+module _ (base d e : ℕ) (small : d ≤ 3) where
+  word_byte : (i : ℕ) → i < 4 → byte_at i (word_less d (e % 16)) ≡ mask_of d e (e / 16 * 4 + i)
+  word_byte i h =
+      eqb-true _ _ (all_at (byte_right d (e % 16)) 4 (all_at (λ (r : ℕ). all_to (byte_right d r) 4) 16 (all_at (λ (x : ℕ). all_to (λ (r : ℕ). all_to (byte_right x r) 4) 16) 4 bytes_right d (omega arith)) (e % 16) (omega arith)) i h)
+      ∙ go (eqb i (e % 16 / 4)) refl
+    where
+      go : (b : Bool) → eqb i (e % 16 / 4) ≡ b → cond b (255 - d * 2 ^ (2 * (e % 16 % 4))) 255 ≡ mask_of d e (e / 16 * 4 + i)
+      go true q =
+          let k = eqb-true i (e % 16 / 4) q in
+          let r : e % 16 % 4 ≡ e % 4 = omega arith in
+          rw r (sym (mask_is d e (e / 16 * 4 + i) (omega arith)))
+      go false q =
+          let k : (i ≡ e % 16 / 4 → ⊥) = eqb-false i (e % 16 / 4) q in
+          sym (mask-not d e (e / 16 * 4 + i) (λ z. k (omega arith)))
 
-  pub step_last : e / 4 % 4 ≡ 3 → state_step base d e ≡ program (base + 32 + b) 255 255 255 (own_byte d e)
-  step_last h = rw (mask-not d e b (λ q. omega arith), mask-not d e (b + 1) (λ q. omega arith), mask-not d e (b + 2) (λ q. omega arith), mask_is d e (b + 3) (omega arith))
+  -- the step programs that word
+  pub step_word : program (base + 32 + e / 16 * 4) (byte_at 0 (word_less d (e % 16))) (byte_at 1 (word_less d (e % 16))) (byte_at 2 (word_less d (e % 16))) (byte_at 3 (word_less d (e % 16))) ≡ state_step base d e
+  step_word = rw (word_byte 0 (omega arith), word_byte 1 (omega arith), word_byte 2 (omega arith), word_byte 3 (omega arith), add-zero (e / 16 * 4))
 
 -- ---- pair by pair
 

@@ -1,12 +1,8 @@
 -- A turn of each loop of stage 1, and a list whose pages are closed one by one. Assumes nothing.
-use mathlib.Core.Path.{◌≡◌, sym, ap, ◌∙◌}
+use mathlib.Core.Path.{◌≡◌}
 use mathlib.Core.Bool.{true, false, cond}
 use mathlib.Core.Option.{some}
-use mathlib.Core.List.{List, [], ◌∷◌, ◌++◌, map, map-append}
-use Prim.Native.Nat.{ℕ, ◌+◌, ◌<◌}
-use native.Mathlib.Numerals.{add-one}
-use lib.ListN.{length, take, get_or, set}
-use lib.Seq.{take-suc, take-suc-set}
+use mathlib.Core.List.{List, [], ◌∷◌, ◌++◌, map}
 use Rattle.lists.specs.Lists.{keep}
 use Rattle.table.specs.declared.Page.{Page}
 use Rattle.table.specs.Table.{active_page, as_full}
@@ -24,16 +20,6 @@ module _ (x : Page) (xs : List Page) where
   pub marks-other : active_page x ≡ false → full_marks (x ∷ xs) ≡ full_marks xs
   unfolding full_marks keep
   marks-other e = rw e
-
--- one page more is closed
-pub closed_more : (ys xs : List Page) (i : ℕ) (d : Page) → i < length ys → i < length xs → take i ys ≡ map closed_page (take i xs)
-    → take (i + 1) (set ys i (closed_page (get_or xs i d))) ≡ map closed_page (take (i + 1) xs)
-closed_more ys xs i d hy hx e =
-    rw (add-one i) (
-    take-suc-set ys i (closed_page (get_or xs i d)) hy
-    ∙ ap (λ (r : List Page). r ++ (closed_page (get_or xs i d) ∷ [])) e
-    ∙ sym (ap (map closed_page) (take-suc xs i d hx) ∙ map-append closed_page (take i xs) (get_or xs i d ∷ []))
-    )
 
 -- the stage, where a page is kept
 module _ (ps : List Page) (a : Page) (e : kept ps ≡ some a) where

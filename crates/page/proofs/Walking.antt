@@ -1,4 +1,5 @@
 -- How the walk goes: by one where no item begins, else by the item's span, and never past entry 125. Assumes nothing.
+use Rattle.std.specs.Prelude.{None, Some}
 use mathlib.Core.Path.{◌≡◌, refl, sym, ap, ◌∙◌}
 use mathlib.Core.Bool.{Bool, true, false, cond}
 use mathlib.Core.List.{List, [], ◌∷◌}
@@ -10,7 +11,6 @@ use Rattle.word.proofs.Bytes.{part-byte}
 use Rattle.entry.specs.Fields.{entry_at, span_of}
 use Rattle.page.proofs.Tests.{both_first, both-second}
 use Rattle.page.specs.declared.walk.ItemHeader.{ItemHeader}
-use Rattle.page.specs.declared.walk.Reading.TheVariants.{Item, Nothing}
 use Rattle.page.specs.Walk.{readable, fits, is_item, Laid, laid_at, on_from, walk, header_of, reading_of}
 
 module _ (t : List ℕ) where
@@ -76,23 +76,23 @@ module _ (t : List ℕ) where
   walk_skip i e = turn_skip 125 i e ∙ enough 125 126 (i + 1) (omega arith) (omega arith)
 
   -- what a reading tells
-  pub reading_none : (i : ℕ) → reading_of t i ≡ Nothing → is_item t i ≡ false
+  pub reading_none : (i : ℕ) → reading_of t i ≡ None → is_item t i ≡ false
   unfolding reading_of
   reading_none i e = go (is_item t i) refl e
     where
-      go : (b : Bool) → is_item t i ≡ b → cond b (Item (header_of i (entry_at t i))) Nothing ≡ Nothing → is_item t i ≡ false
+      go : (b : Bool) → is_item t i ≡ b → cond b (Some (header_of i (entry_at t i))) None ≡ None → is_item t i ≡ false
       go true q r = absurd (let z : ◌≡◌ {A = ℕ} 0 1 = cc in omega arith)
       go false q r = q
 
-  pub reading_item : (i : ℕ) (h : ItemHeader) → reading_of t i ≡ Item h → (is_item t i ≡ true) × (h ≡ header_of i (entry_at t i))
+  pub reading_item : (i : ℕ) (h : ItemHeader) → reading_of t i ≡ Some h → (is_item t i ≡ true) × (h ≡ header_of i (entry_at t i))
   unfolding reading_of
   reading_item i h e = go (is_item t i) refl e
     where
-      go : (b : Bool) → is_item t i ≡ b → cond b (Item (header_of i (entry_at t i))) Nothing ≡ Item h → (is_item t i ≡ true) × (h ≡ header_of i (entry_at t i))
+      go : (b : Bool) → is_item t i ≡ b → cond b (Some (header_of i (entry_at t i))) None ≡ Some h → (is_item t i ≡ true) × (h ≡ header_of i (entry_at t i))
       go true q r = (q, cc)
       go false q r = absurd (let z : ◌≡◌ {A = ℕ} 0 1 = cc in omega arith)
 
-  pub reading_span : (i : ℕ) (h : ItemHeader) → reading_of t i ≡ Item h → h.span ≡ span_of (entry_at t i)
+  pub reading_span : (i : ℕ) (h : ItemHeader) → reading_of t i ≡ Some h → h.span ≡ span_of (entry_at t i)
   unfolding header_of
   reading_span i h e = ap (λ (x : ItemHeader). x.span) (reading_item i h e).1
 

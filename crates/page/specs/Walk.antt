@@ -1,12 +1,10 @@
 -- Rule. Document 01, Reading a page: the item walk of a sector t of 4,096 bytes. Assumes nothing.
-use Rattle.std.specs.Prelude.{Bool, cond, ◌&&◌, List, [], ◌∷◌, ℕ, zero, suc, ◌+◌, ◌*◌, eqb, leb}
+use Rattle.std.specs.Prelude.{Bool, cond, ◌&&◌, List, [], ◌∷◌, ℕ, zero, suc, ◌+◌, ◌*◌, eqb, leb, Option, Some, None}
 use Rattle.word.specs.Number.{part}
 use Rattle.entry.specs.States.{written, state_at}
 use Rattle.entry.specs.Kinds.{known}
 use Rattle.entry.specs.Fields.{entry_at, namespace_of, kind_in, span_of, chunk_index_of, crc_in, entry_crc, key_of, data_of}
 use Rattle.page.specs.declared.walk.ItemHeader.{ItemHeader}
-use Rattle.page.specs.declared.walk.Reading.{Reading}
-use Rattle.page.specs.declared.walk.Reading.TheVariants.{Item, Nothing}
 use Rattle.page.specs.State.{state_of, is_free}
 
 -- "an entry is a readable item if Written, its CRC right, its type known": the last two are of its 32 bytes h
@@ -51,5 +49,5 @@ header_of i h =
     record { entry = i; namespace = namespace_of h; kind = kind_in h; span = span_of h; chunk_index = chunk_index_of h; key = key_of h; data_bytes = data_of h }
 
 -- the reading of entry i
-unfoldable pub reading_of : List ℕ → ℕ → Reading
-reading_of t i = cond (is_item t i) (Item (header_of i (entry_at t i))) Nothing
+unfoldable pub reading_of : List ℕ → ℕ → Option ItemHeader
+reading_of t i = cond (is_item t i) (Some (header_of i (entry_at t i))) None

@@ -7,6 +7,6 @@ mod state;
 mod walk;
 
 pub use record::{PageRecord, with_unread};
-pub use seen::{Seen, see};
+pub use seen::{Seen, free_seen, see};
 pub use state::{PageState, all_ones, is_free, page_state};
-pub use walk::{ItemHeader, Reading, is_item, one_written, read_entry, unread_of};
+pub use walk::{ItemHeader, is_item, one_written, read_entry, unread_of};

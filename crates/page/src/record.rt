@@ -22,14 +22,21 @@ pub struct PageRecord {
 pub fn with_unread(seen: Seen, unread: u8) -> PageRecord
     ensures { result ≡ with_unread seen unread }
 {
-    let state = seen.state;
+    let Seen {
+        state,
+        sequence,
+        written,
+        erased,
+        empty,
+        illegal,
+    } = seen;
     PageRecord {
         state,
         unread,
-        sequence: seen.sequence,
-        written: seen.written,
-        erased: seen.erased,
-        empty: seen.empty,
-        illegal: seen.illegal,
+        sequence,
+        written,
+        erased,
+        empty,
+        illegal,
     }
 }

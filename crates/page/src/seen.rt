@@ -1,13 +1,12 @@
 // What the scan sees of a sector: no item is read.
 ghost use Rattle.std.specs.Prelude.{◌≡◌, length};
-ghost use Rattle.crc.specs.Table.{crc_table};
-ghost use Rattle.page.specs.Record.{seen_of};
+ghost use Rattle.page.specs.Record.{free_seen, seen_of};
 
-use crate::state::PageState;
-use crc::CrcTable;
+use crate::state::{PageState, is_free, page_state};
+use entry::Totals;
 
 // The numbers are 0 where the sector is free.
-#[derive(Clone, Copy)]
+#[derive(Clone, Copy, Default)]
 pub struct Seen {
     pub state: PageState,
     pub sequence: u32,
@@ -17,28 +16,40 @@ pub struct Seen {
     pub illegal: u8,
 }
 
-pub fn see(t: &CrcTable, s: &[u8]) -> Seen
-    requires { (t.now ≡ crc_table) × (length s.now ≡ 4096) }
+// What is seen of a free sector of this state.
+pub fn free_seen(state: PageState) -> Seen
+    ensures { result ≡ free_seen state }
+{
+    Seen {
+        state,
+        sequence: 0,
+        written: 0,
+        erased: 0,
+        empty: 0,
+        illegal: 0,
+    }
+}
+
+pub fn see(s: &[u8]) -> Seen
+    requires { length s.now ≡ 4096 }
     ensures { result ≡ seen_of s.now }
 {
-    let state = crate::state::page_state(t, s);
-    if crate::state::is_free(state) {
-        return Seen {
-            state,
-            sequence: 0,
-            written: 0,
-            erased: 0,
-            empty: 0,
-            illegal: 0,
-        };
+    let state = page_state(s);
+    if is_free(state) {
+        return free_seen(state);
     }
-    let totals = entry::totals_of(s);
+    let Totals {
+        written,
+        erased,
+        empty,
+        illegal,
+    } = entry::totals_of(s);
     Seen {
         state,
         sequence: word::le32(s, 4),
-        written: totals.written,
-        erased: totals.erased,
-        empty: totals.empty,
-        illegal: totals.illegal,
+        written,
+        erased,
+        empty,
+        illegal,
     }
 }

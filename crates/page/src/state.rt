@@ -1,13 +1,16 @@
 // The state of a sector.
-ghost use Rattle.std.specs.Prelude.{◌≡◌, ◌&&◌, [], ◌∷◌, ◌+◌, ◌≤◌, length, drop};
-ghost use Rattle.crc.specs.Table.{crc_table};
+ghost use Rattle.std.specs.Prelude.{◌≡◌, ◌&&◌, ◌+◌, ◌≤◌, length, drop};
+ghost use Rattle.word.specs.Number.{part};
 ghost use Rattle.page.specs.State.{all_ones, word_state, state_of, is_free};
 
-use crc::CrcTable;
 use layout::{ENTRY_BYTES, SECTOR_PLACES};
 
-#[derive(Clone, Copy)]
+// A version byte is this or 0xFF.
+const LEAST_VERSION: u8 = 0xFE;
+
+#[derive(Clone, Copy, Default, PartialEq, Eq)]
 pub enum PageState {
+    #[default]
     Blank,
     Corrupt,
     Active,
@@ -20,20 +23,10 @@ fn are_ones(s: &[u8], at: usize) -> bool
     requires { at + 32 ≤ length s.now }
     ensures { all_ones (drop at s.now) ≡ result && all_ones (drop (at + 32) s.now) }
 {
-    let w0 = word::le64(s, at);
-    if w0 != u64::MAX {
-        return false;
-    }
-    let w1 = word::le64(s, at + 8);
-    if w1 != u64::MAX {
-        return false;
-    }
-    let w2 = word::le64(s, at + 16);
-    if w2 != u64::MAX {
-        return false;
-    }
-    let w3 = word::le64(s, at + 24);
-    w3 == u64::MAX
+    word::le64(s, at) == u64::MAX
+        && word::le64(s, at + 8) == u64::MAX
+        && word::le64(s, at + 16) == u64::MAX
+        && word::le64(s, at + 24) == u64::MAX
 }
 
 // Whether every byte of a sector is 0xFF. A Blank sector is read to its end, so a turn takes four groups: one at a time takes nearly twice as long.
@@ -41,65 +34,43 @@ pub fn all_ones(s: &[u8]) -> bool
     requires { length s.now ≡ 4096 }
     ensures { result ≡ all_ones s.now }
 {
-    let mut p: usize = 0;
-    while p < SECTOR_PLACES {
+    for p in 0..SECTOR_PLACES {
         if !are_ones(s, p * ENTRY_BYTES) {
             return false;
         }
-        p += 1;
     }
     true
 }
 
-// The state that a state word, given by its bytes, lowest first, stands for.
-#[tactic(auto, unfolding(crate::specs::State::word_state))]
-fn state_of_word(b0: u8, b1: u8, b2: u8, b3: u8) -> PageState
-    ensures { result ≡ word_state (b0 ∷ b1 ∷ b2 ∷ b3 ∷ []) }
+// The state that the state word of the sector stands for.
+fn state_of_word(s: &[u8]) -> PageState
+    requires { 4 ≤ length s.now }
+    ensures { result ≡ word_state (part s.now 0 4) }
 {
-    if b1 != 0xFF {
-        return PageState::Corrupt;
-    }
-    if b2 != 0xFF {
-        return PageState::Corrupt;
-    }
-    if b3 != 0xFF {
-        return PageState::Corrupt;
-    }
-    match b0 {
-        0xFE => PageState::Active,
-        0xFC => PageState::Full,
-        0xF8 => PageState::Freeing,
+    match word::le32(s, 0) {
+        0xFFFF_FFFE => PageState::Active,
+        0xFFFF_FFFC => PageState::Full,
+        0xFFFF_FFF8 => PageState::Freeing,
         _ => PageState::Corrupt,
     }
 }
 
 // The state of the sector `s`. A used sector fails the test for Blank at its first byte, so the test comes first.
-pub fn page_state(t: &CrcTable, s: &[u8]) -> PageState
-    requires { (t.now ≡ crc_table) × (length s.now ≡ 4096) }
+pub fn page_state(s: &[u8]) -> PageState
+    requires { length s.now ≡ 4096 }
     ensures { result ≡ state_of s.now }
 {
     if all_ones(s) {
-        return PageState::Blank;
+        PageState::Blank
+    } else if s[8] >= LEAST_VERSION && word::le32(s, 28) == crc::crc(&s[4..28]) {
+        state_of_word(s)
+    } else {
+        PageState::Corrupt
     }
-    if s[8] < 0xFE {
-        return PageState::Corrupt;
-    }
-    let seen = word::le32(s, 28);
-    let right = crc::crc(t, &s[4..28]);
-    if seen != right {
-        return PageState::Corrupt;
-    }
-    state_of_word(s[0], s[1], s[2], s[3])
 }
 
 pub fn is_free(state: PageState) -> bool
     ensures { result ≡ is_free state }
 {
-    match state {
-        PageState::Blank => true,
-        PageState::Corrupt => true,
-        PageState::Active => false,
-        PageState::Full => false,
-        PageState::Freeing => false,
-    }
+    matches!(state, PageState::Blank | PageState::Corrupt)
 }

@@ -1,12 +1,10 @@
 // The item walk of a sector.
 ghost use Rattle.std.specs.Prelude.{◌≡◌, ◌<◌, ◌≤◌, eqb, length};
-ghost use Rattle.crc.specs.Table.{crc_table};
 ghost use Rattle.entry.specs.States.{one, written, state_at};
 ghost use Rattle.page.specs.Walk.{is_item, reading_of};
 ghost use Rattle.page.specs.Unread.{unread_from};
 
-use crc::CrcTable;
-use entry::{Key, Kind};
+use entry::{EntryState, Key, Kind};
 use layout::{ENTRIES_AT, ENTRY_BYTES, PAGE_ENTRIES};
 
 // An item as its header tells it: where it stands, and what the 32 bytes say. `data_bytes` is the eight data bytes as a number, lowest first.
@@ -21,52 +19,33 @@ pub struct ItemHeader {
     pub data_bytes: u64,
 }
 
-#[derive(Clone, Copy)]
-pub enum Reading {
-    Item(ItemHeader),
-    Nothing,
-}
-
 // Whether an item begins at entry `i`. The CRC is tested late: it is what costs time.
-pub fn is_item(t: &CrcTable, s: &[u8], i: usize) -> bool
-    requires { (t.now ≡ crc_table) × (length s.now ≡ 4096) × (i < 126) }
+pub fn is_item(s: &[u8], i: usize) -> bool
+    requires { (length s.now ≡ 4096) × (i < 126) }
     ensures { result ≡ is_item s.now i }
 {
-    let state = entry::entry_state(s, i);
-    if state != 2 {
-        return false;
-    }
     let at = ENTRIES_AT + i * ENTRY_BYTES;
-    let seen = word::le32(s, at + 4);
-    let right = entry::entry_crc(t, s, at);
-    if seen != right {
-        return false;
-    }
-    let kind = entry::kind_of(s[at + 1]);
-    if !entry::is_known(kind) {
-        return false;
-    }
-    let span = word::size(s[at + 2]);
-    if span == 0 {
-        return false;
-    }
-    i + span <= PAGE_ENTRIES
+    entry::entry_state(s, i) == EntryState::Written
+        && word::le32(s, at + 4) == entry::entry_crc(s, at)
+        && entry::is_known(entry::kind_of(s[at + 1]))
+        && s[at + 2] != 0
+        && i + usize::from(s[at + 2]) <= PAGE_ENTRIES
 }
 
 // The item that begins at entry `i`, if one does.
-pub fn read_entry(t: &CrcTable, s: &[u8], i: usize) -> Reading
-    requires { (t.now ≡ crc_table) × (length s.now ≡ 4096) × (i < 126) }
+pub fn read_entry(s: &[u8], i: usize) -> Option<ItemHeader>
+    requires { (length s.now ≡ 4096) × (i < 126) }
     ensures { result ≡ reading_of s.now i }
 {
-    if !is_item(t, s, i) {
-        return Reading::Nothing;
+    if !is_item(s, i) {
+        return None;
     }
     let at = ENTRIES_AT + i * ENTRY_BYTES;
-    Reading::Item(ItemHeader {
+    Some(ItemHeader {
         entry: i,
         namespace: s[at],
         kind: entry::kind_of(s[at + 1]),
-        span: word::size(s[at + 2]),
+        span: usize::from(s[at + 2]),
         chunk_index: s[at + 3],
         key: entry::key_at(s, at),
         data_bytes: word::le64(s, at + 24),
@@ -78,19 +57,20 @@ pub fn one_written(s: &[u8], i: usize) -> u8
     requires { (length s.now ≡ 4096) × (i < 126) }
     ensures { (result ≡ one (eqb (state_at s.now i) written)) × (result ≤ 1) }
 {
-    if entry::entry_state(s, i) == 2 { 1 } else { 0 }
+    u8::from(entry::entry_state(s, i) == EntryState::Written)
 }
 
 // How many entries of the sector are unread: the walk of crate walking without the places, which nobody wants here.
-pub fn unread_of(t: &CrcTable, s: &[u8]) -> u8
-    requires { (t.now ≡ crc_table) × (length s.now ≡ 4096) }
+pub fn unread_of(s: &[u8]) -> u8
+    requires { length s.now ≡ 4096 }
     ensures { result ≡ unread_from s.now 126 0 }
 {
     let mut unread: u8 = 0;
     let mut i: usize = 0;
+    // no index is counted: the walk goes on by the item's span, or by one
     while i < PAGE_ENTRIES {
-        if is_item(t, s, i) {
-            i += word::size(s[ENTRIES_AT + i * ENTRY_BYTES + 2]);
+        if is_item(s, i) {
+            i += usize::from(s[ENTRIES_AT + i * ENTRY_BYTES + 2]);
             continue;
         }
         unread += one_written(s, i);

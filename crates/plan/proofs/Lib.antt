@@ -1,3 +1,4 @@
 pub mod Chosen
 pub mod Closed
 pub mod Planned
+pub mod Refused

@@ -1,4 +1,5 @@
 -- What a plan names lies in the image: the source is a page, the target a free sector. Assumes nothing.
+use Rattle.std.specs.Prelude.{Result, Ok, Err}
 use mathlib.Core.Path.{◌≡◌, refl, sym, ap, ◌∙◌}
 use mathlib.Core.Bool.{Bool, true, false, cond}
 use mathlib.Core.Option.{Option, none, some}
@@ -7,6 +8,7 @@ use Prim.Native.Nat.{ℕ, ◌<◌}
 use lib.Dec.{eqb, ltb}
 use Rattle.page.specs.State.{state_of, is_free}
 use Rattle.flash.specs.Step.{sector}
+use Rattle.answer.specs.declared.Answer.{Answer}
 use Rattle.answer.specs.declared.Answer.TheVariants.{ActiveStands, SequencesSpent}
 use Rattle.lists.specs.Lists.{some_of, greatest}
 use Rattle.lists.proofs.Member.{◌∈◌, true≢false}
@@ -15,15 +17,15 @@ use Rattle.table.specs.declared.Page.{Page}
 use Rattle.table.specs.Table.{sectors_of, pages, frees, sequence, active_page}
 use Rattle.table.proofs.Pages.{pages_in, frees_in}
 use Rattle.plan.specs.declared.Plan.{Plan}
-use Rattle.plan.specs.declared.Plan.TheVariants.{Refuse, Clear, Move}
+use Rattle.plan.specs.declared.Plan.TheVariants.{Clear, Move}
 use Rattle.plan.specs.Plan.{next, chosen, plan_to, plan_with, plan}
 use Rattle.plan.proofs.Chosen.{chosen_in}
 
 -- the sectors that a plan names are in the image, and they are two
-abbrev pub Named : List ℕ → Plan → Type 0
-Named l (Refuse a) = Unit {0}
-Named l (Clear s) = s < sectors_of l
-Named l (Move s t q) = (s < sectors_of l) × (t < sectors_of l) × (s ≡ t → ⊥)
+abbrev pub Named : List ℕ → Result Plan Answer → Type 0
+Named l (Err a) = Unit {0}
+Named l (Ok (Clear s)) = s < sectors_of l
+Named l (Ok (Move s t q)) = (s < sectors_of l) × (t < sectors_of l) × (s ≡ t → ⊥)
 
 module _ (l : List ℕ) where
   -- a page is not free, and a free sector is
@@ -42,7 +44,7 @@ module _ (l : List ℕ) where
       f : t ∈ frees l
       f = last_in (frees l) t e
 
-      go : (b : Bool) → Named l (cond b (Refuse SequencesSpent) (Move p.sector t (next (pages l))))
+      go : (b : Bool) → Named l (cond b (Err SequencesSpent) (Ok (Move p.sector t (next (pages l)))))
       go true = tt
       go false = ((pages_in l p h).1, (frees_in l t f).0, apart p t h f)
 
@@ -54,7 +56,7 @@ module _ (l : List ℕ) where
       h : p ∈ pages l
       h = (chosen_in (pages l) e).0
 
-      go : (b : Bool) → Named l (cond b (Clear p.sector) (plan_to (pages l) p.sector (get_last? (frees l))))
+      go : (b : Bool) → Named l (cond b (Ok (Clear p.sector)) (plan_to (pages l) p.sector (get_last? (frees l))))
       go true = (pages_in l p h).1
       go false = named_to p h (get_last? (frees l)) refl
 
@@ -62,6 +64,6 @@ module _ (l : List ℕ) where
   unfolding plan
   named = go (some_of active_page (pages l))
     where
-      go : (b : Bool) → Named l (cond b (Refuse ActiveStands) (plan_with (pages l) (frees l) (chosen (pages l))))
+      go : (b : Bool) → Named l (cond b (Err ActiveStands) (plan_with (pages l) (frees l) (chosen (pages l))))
       go true = tt
       go false = named-with (chosen (pages l)) refl

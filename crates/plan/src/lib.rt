@@ -1,134 +1,82 @@
 // What a reclaim is to do, worked out from the page table alone.
 #![tactic(auto)]
 
-ghost use Rattle.std.specs.Prelude.{◌≡◌, ◌+◌, ◌≤◌, ◌<◌};
+ghost use Rattle.std.specs.Prelude.{◌≡◌, ◌≤◌};
 ghost use mathlib.Core.List.{get_last?};
 ghost use Rattle.lists.specs.Lists.{greatest};
-ghost use Rattle.table.specs.Table.{sequence, listed, freed, Sized};
-ghost use Rattle.table.specs.Sought.{sought_of, better_among};
-ghost use Rattle.plan.specs.Plan.{points, candidate, no_fewer_points, chosen, plan_to, plan};
+ghost use Rattle.table.specs.Table.{sequence, listed, freed};
+ghost use Rattle.table.specs.Sought.{sought_of};
+ghost use Rattle.plan.specs.Plan.{points, chosen, plan_to, plan};
 ghost use Rattle.plan.specs.Choosing.{target_of};
 
 use answer::Answer;
-use table::{Page, Sought, Table};
+use table::{Page, Table};
 
 // A page's entries, as its record counts them.
 const ALL_ENTRIES: u8 = 126;
 
-// It is refused; the source is erased, since all its entries are Erased; or its items are moved to the target, which gets the sequence.
+// The source is erased, since all its entries are Erased; or its items are moved to the target, which gets the sequence.
 #[derive(Clone, Copy)]
 pub enum Plan {
-    Refuse(Answer),
     Clear(usize),
     Move(usize, usize, u32),
 }
 
-// The free sector to take.
-#[derive(Clone, Copy)]
-pub enum Target {
-    Sector(usize),
-    NoSector,
-}
-
-fn long(n: u32) -> u64
-    ensures { (result ≡ n) × (result < 0x1_0000_0000) }
-{
-    n as u64
-}
-
 // The points of a page, where `next` is one above the greatest sequence: it may be 2^32, so they are counted in 64 bits.
-fn points_of(next: u64, p: Page) -> u64
+fn points_of(next: u64, p: &Page) -> u64
     requires { next ≤ 0x1_0000_0000 }
-    ensures { result ≡ points next p }
+    ensures { result ≡ points next p.now }
 {
-    let seen = p.seen;
-    let erased = long(seen.erased as u32);
-    if erased == 0 {
+    if p.seen.erased == 0 {
         return 0;
     }
-    let sequence = long(seen.sequence);
-    if sequence < next {
-        10 * erased + (next - sequence)
-    } else {
-        10 * erased
-    }
+    10 * u64::from(p.seen.erased) + next.saturating_sub(u64::from(p.seen.sequence))
 }
 
-// The better of a page and the best of those behind it: among equals the later.
-fn better_of(next: u64, p: Page, best: Sought) -> Sought
-    requires { next ≤ 0x1_0000_0000 }
-    ensures { result ≡ better_among candidate (no_fewer_points next) p best }
+// The page to reclaim: that of most points, and the last of equals.
+fn choose(table: &Table, top: u32) -> Option<Page>
+    requires { top ≡ greatest sequence (listed table.now) }
+    ensures { result ≡ sought_of (chosen (listed table.now)) }
 {
-    let seen = p.seen;
-    if ALL_ENTRIES <= seen.written {
-        return best;
-    }
-    let Sought::One(q) = best else {
-        return Sought::One(p);
-    };
-    if points_of(next, p) <= points_of(next, q) {
-        Sought::One(q)
-    } else {
-        Sought::One(p)
-    }
-}
-
-// The page to reclaim. The list is gone through from its end, so that the last of equals stands.
-fn choose(table: Table, top: u32) -> Sought
-    requires { Sized table × (top ≡ greatest sequence (listed table)) }
-    ensures { result ≡ sought_of (chosen (listed table)) }
-{
-    let next = long(top) + 1;
-    let mut best = Sought::Nothing;
-    let mut i = table.count;
-    while 0 < i {
-        i -= 1;
-        let p = table.pages[i];
-        best = better_of(next, p, best);
-    }
-    best
+    let next = u64::from(top) + 1;
+    table
+        .pages
+        .iter()
+        .filter(|p| p.seen.written < ALL_ENTRIES)
+        .max_by_key(|p| points_of(next, p))
+        .copied()
 }
 
 // "the last is taken first"
-fn last_free(table: Table) -> Target
-    requires { Sized table }
-    ensures { result ≡ target_of (get_last? (freed table)) }
+fn last_free(table: &Table) -> Option<usize>
+    ensures { result ≡ target_of (get_last? (freed table.now)) }
 {
-    let n = table.free_count;
-    if n == 0 {
-        return Target::NoSector;
-    }
-    Target::Sector(table.free[n - 1] as usize)
+    table.free.last().map(|s| usize::from(*s))
 }
 
 // The crate marks the page Freeing before it looks for a free one; here the looking comes first, so that a refusal changes nothing.
-fn plan_copy(table: Table, source: usize, top: u32) -> Plan
-    requires { Sized table × (top ≡ greatest sequence (listed table)) }
-    ensures { result ≡ plan_to (listed table) source (get_last? (freed table)) }
+fn plan_copy(table: &Table, source: usize, top: u32) -> Result<Plan, Answer>
+    requires { top ≡ greatest sequence (listed table.now) }
+    ensures { result ≡ plan_to (listed table.now) source (get_last? (freed table.now)) }
 {
-    let Target::Sector(target) = last_free(table) else {
-        return Plan::Refuse(Answer::NoFreeSector);
-    };
+    let target = last_free(table).ok_or(Answer::NoFreeSector)?;
     if 0xFFFF_FFFD < top {
-        return Plan::Refuse(Answer::SequencesSpent);
+        return Err(Answer::SequencesSpent);
     }
-    Plan::Move(source, target, top + 1)
+    Ok(Plan::Move(source, target, top + 1))
 }
 
-pub fn plan_of(table: Table) -> Plan
-    requires { Sized table }
-    ensures { result ≡ plan (listed table) (freed table) }
+// The plan for the pages and the free sectors that the table lists, or why there is none.
+pub fn plan_of(table: &Table) -> Result<Plan, Answer>
+    ensures { result ≡ plan (listed table.now) (freed table.now) }
 {
-    if table::any_active(table) {
-        return Plan::Refuse(Answer::ActiveStands);
+    if table.any_active() {
+        return Err(Answer::ActiveStands);
     }
-    let top = table::greatest_sequence(table);
-    let Sought::One(p) = choose(table, top) else {
-        return Plan::Refuse(Answer::AllWritten);
-    };
-    let seen = p.seen;
-    if seen.erased == ALL_ENTRIES {
-        return Plan::Clear(p.sector as usize);
+    let top = table.greatest_sequence();
+    let p = choose(table, top).ok_or(Answer::AllWritten)?;
+    if p.seen.erased == ALL_ENTRIES {
+        return Ok(Plan::Clear(usize::from(p.sector)));
     }
-    plan_copy(table, p.sector as usize, top)
+    plan_copy(table, usize::from(p.sector), top)
 }

@@ -1,4 +1,5 @@
 -- Document 01's example is a store of demand 3. Each part of it is computed once and cited. Assumes nothing.
+use Rattle.std.specs.Prelude.{Ok}
 use mathlib.Core.Path.{◌≡◌, refl, ◌∙◌, ap}
 use mathlib.Core.Bool.{Bool, true, false, ◌&&◌, cond}
 use mathlib.Core.List.{List, [], ◌∷◌, flat_map}
@@ -235,7 +236,7 @@ premises =
 
 -- ---- reclaim
 
-plan_is : plan (pages image) (frees image) ≡ Move 1 0 8
+plan_is : plan (pages image) (frees image) ≡ Ok (Move 1 0 8)
 unfolding plan plan_with plan_to chosen best better keep some_of greatest points
 plan_is = rw (pages-are, frees-are)
 

@@ -1,4 +1,5 @@
 -- Reclaim cut anywhere on a store within the premises: the store as it was, or one of the images. Assumes nothing.
+use Rattle.std.specs.Prelude.{Ok, Err}
 use mathlib.Core.Path.{◌∙◌, ◌≡◌, refl, sym}
 use mathlib.Core.Logic.{◌⊎◌, inl, inr}
 use mathlib.Core.Bool.{Bool, cond, false, true}
@@ -29,7 +30,7 @@ use Rattle.table.specs.Table.{active_page, frees, items_in, page_at, pages, sect
 use Rattle.table.proofs.Pages.{frees_in, in_pages, page-erased, pages_in, listed-items}
 use Rattle.page.proofs.Fields.{seen_sequence}
 use Rattle.answer.specs.declared.Answer.TheVariants.{ActiveStands, SequencesSpent}
-use Rattle.plan.specs.declared.Plan.TheVariants.{Clear, Move, Refuse}
+use Rattle.plan.specs.declared.Plan.TheVariants.{Clear, Move}
 use Rattle.plan.specs.Plan.{chosen, next, plan, plan_to, plan_with}
 use Rattle.plan.proofs.Chosen.{chosen_in}
 use Rattle.reclaim.specs.Reclaim.{plan_steps, reclaiming}
@@ -126,7 +127,7 @@ module _ (L : List ℕ) (S : Premises L) where
     to_reach c none e = nothing c
     to_reach c (some t) e = go (ltb 0xFFFFFFFD (greatest sequence (pages L)))
       where
-        go : (b : Bool) → Reach (run (take c (plan_steps L (cond b (Refuse SequencesSpent) (Move s t (next (pages L)))))) L)
+        go : (b : Bool) → Reach (run (take c (plan_steps L (cond b (Err SequencesSpent) (Ok (Move s t (next (pages L))))))) L)
         go true = nothing c
         go false = moved-reach t e c
 
@@ -136,7 +137,7 @@ module _ (L : List ℕ) (S : Premises L) where
   unfolding plan_with plan_steps
   with-reach c s r h p k = go (eqb r.erased 126) refl
     where
-      go : (b : Bool) → eqb r.erased 126 ≡ b → Reach (run (take c (plan_steps L (cond b (Clear s) (plan_to (pages L) s (get_last? (frees L)))))) L)
+      go : (b : Bool) → eqb r.erased 126 ≡ b → Reach (run (take c (plan_steps L (cond b (Ok (Clear s)) (plan_to (pages L) s (get_last? (frees L)))))) L)
       go true q = erased-reach s h p (sym k ∙ eqb-true _ 126 q) c
       go false q = to_reach s h p c (get_last? (frees L)) refl
 
@@ -152,11 +153,11 @@ module _ (L : List ℕ) (S : Premises L) where
           let r = pages_in L x m in
           with-reach c x.sector x.seen r.1 r.2 (page-erased L x m)
 
-      none_active : (b : Bool) → Reach (run (take c (plan_steps L (cond b (Refuse ActiveStands) (plan_with (pages L) (frees L) (chosen (pages L)))))) L)
+      none_active : (b : Bool) → Reach (run (take c (plan_steps L (cond b (Err ActiveStands) (plan_with (pages L) (frees L) (chosen (pages L)))))) L)
       none_active true = nothing c
       none_active false = page (chosen (pages L)) refl
 
       whole : (b : Bool)
-          → Reach (run (take c (cond b (plan_steps L (cond (some_of active_page (pages L)) (Refuse ActiveStands) (plan_with (pages L) (frees L) (chosen (pages L))))) [])) L)
+          → Reach (run (take c (cond b (plan_steps L (cond (some_of active_page (pages L)) (Err ActiveStands) (plan_with (pages L) (frees L) (chosen (pages L))))) [])) L)
       whole true = none_active (some_of active_page (pages L))
       whole false = nothing c

@@ -1,6 +1,6 @@
 -- Bridge: document 01's own example as a store of demand 3: "an image with sector 0 Blank and sector 1 Full, sequence 7, three readable one-entry items of namespace 1,
 -- type 0x01 and different keys, and two Erased entries". The premises can be met, and reclaim then has steps to cut. Assumes nothing.
-use Rattle.std.specs.Prelude.{◌≡◌, List, [], ◌∷◌, ◌++◌, ℕ, replicate}
+use Rattle.std.specs.Prelude.{◌≡◌, List, [], ◌∷◌, ◌++◌, ℕ, Ok, replicate}
 use Rattle.table.specs.declared.Page.{Page}
 use Rattle.table.specs.Table.{pages}
 use Rattle.plan.specs.declared.Plan.TheVariants.{Move}
@@ -41,6 +41,6 @@ image = replicate 4096 0xFF ++ page
 pub record Example : Type 0 where
   pub store : Store image
   pub unsettled : Unsettled image
-  pub moves : reclaiming image ≡ plan_steps image (Move 1 0 8)
+  pub moves : reclaiming image ≡ plan_steps image (Ok (Move 1 0 8))
   -- it meets the premises of document 02, No. 12, too: no page is Active, and one is chosen
   pub chooses : (x : Page) × Met (pages image) x

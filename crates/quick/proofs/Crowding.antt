@@ -21,7 +21,7 @@ use Rattle.versions.specs.Versions.{chunk_numbered, size_in, version_in}
 use Rattle.blobs.proofs.Ordered.{start_either, version_is}
 use Rattle.quick.specs.Calm.{Calm, in_group, part_of}
 use Rattle.slots.specs.Names.{chunk_name, judged, name_of}
-use Rattle.slots.specs.Slots.{raw_at, stop_of, told}
+use Rattle.slots.specs.Slots.{raw_at, told}
 use Rattle.slots.specs.Named.{Named, Stopped, called}
 use Rattle.fits.specs.Fits.{all_fit, part_fits}
 use Rattle.quick.specs.Crowded.{Crowded}
@@ -171,8 +171,8 @@ module _ (t l ps : List ℕ) (small : Small l) (C : Calm (tot_at l ps)) (s : Sto
   k = name_of (raw_at l s.place)
 
   -- its name is not there: it would be called twice
-  absent : 1 ≤ (stop_of t l k).place → ⊥
-  unfolding sum_of told
+  absent : 1 ≤ told t l k → ⊥
+  unfolding sum_of
   absent h =
       let q = told t l k in
       let m = among q s.before (told_slot t l k (λ (p : ℕ). some_of (eqb p) s.before ≡ true) s.named.only h) in
@@ -196,9 +196,9 @@ module _ (t l ps : List ℕ) (small : Small l) (C : Calm (tot_at l ps)) (s : Sto
         full = λ n h. let f = full t l k (s.none none) n h in (f.0, eqb-false _ k f.1);
       }
     where
-      none : (stop_of t l k).place ≡ 0
-      none = go (eqb (stop_of t l k).place 0) refl
+      none : told t l k ≡ 0
+      none = go (eqb (told t l k) 0) refl
         where
-          go : (b : Bool) → eqb (stop_of t l k).place 0 ≡ b → (stop_of t l k).place ≡ 0
+          go : (b : Bool) → eqb (told t l k) 0 ≡ b → told t l k ≡ 0
           go true e = eqb-true _ 0 e
-          go false e = let z = eqb-false (stop_of t l k).place 0 e in absurd (absent (omega arith))
+          go false e = let z = eqb-false (told t l k) 0 e in absurd (absent (omega arith))

@@ -1,4 +1,5 @@
 -- An item is crowded out only among 65 items or more: each of the 64 slots holds another. So of 64 items or fewer the test answers exactly. Assumes nothing.
+use Rattle.std.specs.Prelude.{Option, unwrap_or}
 use mathlib.Core.Path.{◌≡◌, refl, ap, ◌∙◌}
 use mathlib.Core.Bool.{Bool, true, false, cond}
 use mathlib.Core.List.{List}
@@ -13,7 +14,6 @@ use Rattle.lists.proofs.Numbers.{by_number}
 use Rattle.lists.proofs.Range.{sum_to_least}
 use Rattle.lists.proofs.Sums.{sum_ext, sum-ge, sum-le, sum_plus}
 use Rattle.table.proofs.Places.{length-sum}
-use Rattle.slots.specs.declared.Stop.{Stop}
 use Rattle.slots.specs.Names.{name_of, slot_of}
 use Rattle.slots.specs.Slots.{raw_at, stop_of}
 use Rattle.quick.specs.Crowded.{Crowded}
@@ -27,7 +27,7 @@ module _ (t l ps : List ℕ) (c : Crowded t l ps) where
 
   -- how far from the slot of its name on the search for an item's name ends
   abbrev far : ℕ → ℕ
-  far p = ((stop_of t l (name_of (raw_at l p))).slot + (4096 - slot_of k)) % 4096
+  far p = (unwrap_or (stop_of t l (name_of (raw_at l p))) 4096 + (4096 - slot_of k)) % 4096
 
   -- 1 for an item of another name
   abbrev other : ℕ → ℕ
@@ -40,7 +40,7 @@ module _ (t l ps : List ℕ) (c : Crowded t l ps) where
       let p = get_or t i 0 in
       let f = c.full n h in
       let g = sum-ge (λ (q : ℕ). cond (eqb (far q) n) (other q) 0) ps p (among p ps (c.only i f.0)) in
-      let slot : (stop_of t l (name_of (raw_at l p))).slot ≡ i = ap (λ (u : Stop). u.slot) (c.stands i f.0) in
+      let slot : unwrap_or (stop_of t l (name_of (raw_at l p))) 4096 ≡ i = ap (λ (o : Option ℕ). unwrap_or o 4096) (c.stands i f.0) in
       let is : far p ≡ n = omega (arith, slot-below k) in
       let z : cond (eqb (far p) n) (other p) 0 ≡ 1 = rw (eq-eqb (far p) n is, ne_eqb (name_of (raw_at l p)) k f.1) in
       omega arith

@@ -5,8 +5,8 @@ ghost use Rattle.std.specs.Prelude.{◌≡◌};
 ghost use Rattle.reading.specs.Reading.{read_on};
 ghost use Rattle.reader.specs.Reader.{read_from, new_reader, read_next, moved_reader};
 
+use reading::next_from;
 pub use reading::{Handed, Read, begins_at, result};
-use reading::{next_from, read_of};
 
 #[derive(Clone, Copy)]
 pub struct ItemReader<'a> {
@@ -20,10 +20,9 @@ impl<'a> ItemReader<'a> {
     pub fn new(sector: &'a [u8]) -> ItemReader<'a>
         ensures { result ≡ new_reader sector.entry }
     {
-        let entry = begins_at(sector);
         ItemReader {
             sector,
-            entry,
+            entry: begins_at(sector),
             unread: 0,
         }
     }
@@ -44,13 +43,7 @@ impl<'a> ItemReader<'a> {
 pub fn read_on(sector: &[u8], entry: usize, unread: u8) -> Read
     ensures { result ≡ read_on sector.now entry unread }
 {
-    let mut r = ItemReader {
-        sector,
-        entry,
-        unread,
-    };
-    let handed = r.next();
-    read_of(handed, r.entry, r.unread)
+    next_from(sector, entry, unread)
 }
 
 // What is handed out at any place, which no answer need have named: the sector is judged in each call. A whole sector is read from entry 0 and count 0 on.
@@ -58,8 +51,5 @@ pub fn read_from(sector: &[u8], entry: usize, unread: u8) -> Read
     ensures { result ≡ read_from sector.now entry unread }
 {
     let first = begins_at(sector);
-    if entry < first {
-        return read_on(sector, first, unread);
-    }
-    read_on(sector, entry, unread)
+    read_on(sector, entry.max(first), unread)
 }

@@ -2,14 +2,12 @@
 #![tactic(auto)]
 
 ghost use Rattle.std.specs.Prelude.{◌≡◌, length};
-ghost use Rattle.crc.specs.Table.{crc_table};
 ghost use Rattle.page.specs.Walk.{walk};
 ghost use Rattle.page.specs.Unread.{passed_from};
 ghost use Rattle.reading.specs.Reading.{counted_on, read_of, read_on, begins_at, result_of};
 
-use crc::CrcTable;
 use layout::{PAGE_ENTRIES, SECTOR_BYTES};
-use page::{ItemHeader, Reading};
+use page::ItemHeader;
 
 // No page has more unread entries than it has entries.
 const MOST_UNREAD: u8 = 126;
@@ -36,46 +34,35 @@ pub fn result(handed: Handed) -> u8
     ensures { result ≡ result_of handed }
 {
     match handed {
-        Handed::Item(_) => 0,
-        Handed::End(_) => 0,
+        Handed::Item(_) | Handed::End(_) => 0,
         Handed::NotSector => 1,
     }
 }
 
 // The count so far and what was passed since. The sum has to fit for any count that a caller names, so it ends at the most that a page has; no reader comes
 // to more.
+#[tactic(auto, unfolding(crate::specs::Reading::counted_on))]
 fn counted_on(unread: u8, passed: u8) -> u8
     ensures { result ≡ counted_on unread passed }
 {
-    if unread > MOST_UNREAD {
-        return MOST_UNREAD;
-    }
-    if passed > MOST_UNREAD - unread {
-        return MOST_UNREAD;
-    }
-    unread + passed
+    unread.saturating_add(passed).min(MOST_UNREAD)
 }
 
 // The first item at entry `from` or after.
-fn next_item(t: &CrcTable, s: &[u8], from: usize, unread: u8) -> Read
-    requires { (t.now ≡ crc_table) × (length s.now ≡ 4096) }
+fn next_item(s: &[u8], from: usize, unread: u8) -> Read
+    requires { length s.now ≡ 4096 }
     ensures { result ≡ read_of (counted_on unread (passed_from s.now 126 from)) (walk s.now 126 from) }
 {
-    let mut i = from;
     let mut passed: u8 = 0;
-    while i < PAGE_ENTRIES {
-        let Reading::Item(item) = page::read_entry(t, s, i) else {
-            passed += page::one_written(s, i);
-            i += 1;
-            continue;
-        };
-        let next = i + item.span;
-        let counted = counted_on(unread, passed);
-        return Read {
-            handed: Handed::Item(item),
-            next,
-            unread: counted,
-        };
+    for i in from..PAGE_ENTRIES {
+        if let Some(item) = page::read_entry(s, i) {
+            return Read {
+                handed: Handed::Item(item),
+                next: i + item.span,
+                unread: counted_on(unread, passed),
+            };
+        }
+        passed += page::one_written(s, i);
     }
     let counted = counted_on(unread, passed);
     Read {
@@ -96,30 +83,16 @@ pub fn next_from(s: &[u8], entry: usize, unread: u8) -> Read
             unread,
         };
     }
-    let t = crc::table();
-    next_item(&t, s, entry, unread)
+    next_item(s, entry, unread)
 }
 
 // Where a reader of the sector begins: at the first entry; at the end, where the sector is free and has no item.
 pub fn begins_at(sector: &[u8]) -> usize
     ensures { result ≡ begins_at sector.now }
 {
-    if sector.len() != SECTOR_BYTES {
-        return 0;
-    }
-    let t = crc::table();
-    if page::is_free(page::page_state(&t, sector)) {
-        return PAGE_ENTRIES;
-    }
-    0
-}
-
-pub fn read_of(handed: Handed, next: usize, unread: u8) -> Read
-    ensures { (result.handed ≡ handed) × (result.next ≡ next) × (result.unread ≡ unread) }
-{
-    Read {
-        handed,
-        next,
-        unread,
+    if sector.len() == SECTOR_BYTES && page::is_free(page::page_state(sector)) {
+        PAGE_ENTRIES
+    } else {
+        0
     }
 }

@@ -1,4 +1,5 @@
 -- Reclaim ends: no list of its steps is longer than `most_steps`, so a call that is allowed as many is never stopped. Assumes nothing.
+use Rattle.std.specs.Prelude.{Result, Ok, Err}
 use mathlib.Core.Path.{◌≡◌}
 use mathlib.Core.Bool.{Bool, true, false, cond}
 use mathlib.Core.List.{List, [], ◌∷◌}
@@ -13,17 +14,17 @@ use Rattle.answer.specs.declared.Answer.{Answer}
 use Rattle.answer.specs.Answer.{number_of, refusal}
 use Rattle.answer.proofs.Ended.{neither-ended}
 use Rattle.plan.specs.declared.Plan.{Plan}
-use Rattle.plan.specs.declared.Plan.TheVariants.{Refuse, Clear, Move}
+use Rattle.plan.specs.declared.Plan.TheVariants.{Clear, Move}
 use Rattle.plan.specs.Plan.{plan}
 use Rattle.reclaim.specs.Reclaim.{plan_steps, reclaiming}
 use Rattle.reclaim.specs.Promise.{most_steps, ReclaimPromise}
 use Rattle.reclaim.proofs.Numbers.{number_7}
 
-plan_most : (l : List ℕ) (p : Plan) → length (plan_steps l p) ≤ most_steps
+plan_most : (l : List ℕ) (p : Result Plan Answer) → length (plan_steps l p) ≤ most_steps
 unfolding plan_steps items_in
-plan_most l (Refuse a) = omega arith
-plan_most l (Clear s) = omega arith
-plan_most l (Move s t q) = let m = run (mark_freeing s ∷ []) l in omega (arith, moving_most s t q (sector s m) m)
+plan_most l (Err a) = omega arith
+plan_most l (Ok (Clear s)) = omega arith
+plan_most l (Ok (Move s t q)) = let m = run (mark_freeing s ∷ []) l in omega (arith, moving_most s t q (sector s m) m)
 
 pub reclaim_ends : (l : List ℕ) → length (reclaiming l) ≤ most_steps
 unfolding reclaiming

@@ -1,20 +1,19 @@
 -- From the plan and the steps made to the promise; two outcomes that it allows are the same; the steps told are those made; a refusal changes nothing.
 -- Assumes nothing.
+use Rattle.std.specs.Prelude.{Result, Ok, Err}
 use mathlib.Core.Path.{◌≡◌, refl, sym, ap, ◌∙◌, subst}
 use mathlib.Core.Bool.{Bool, true, false, cond}
 use mathlib.Core.List.{List, []}
 use Prim.Native.Nat.{ℕ}
 use lib.Dec.{ltb}
 use lib.ListN.{length, take}
-use Rattle.flash.specs.declared.Ran.{Ran}
 use Rattle.flash.specs.Step.{Step, run}
-use Rattle.flash.specs.Did.{Did}
+use Rattle.flash.specs.Did.{Did, Ran}
 use Rattle.answer.specs.declared.Stage.TheVariants.{Reclaim}
 use Rattle.answer.specs.declared.Answer.{Answer}
 use Rattle.answer.specs.declared.Answer.TheVariants.{NotSectors}
 use Rattle.answer.specs.Answer.{refusal, steps_of}
-use Rattle.answer.specs.declared.Went.{Went}
-use Rattle.answer.specs.Went.{in_stage, told_of}
+use Rattle.answer.specs.Went.{in_stage, told_of, Went}
 use Rattle.answer.specs.Staged.{tag, answer_of}
 use Rattle.answer.specs.Told.{number_in}
 use Rattle.answer.proofs.Tagged.{length-tag}
@@ -23,7 +22,7 @@ use Rattle.answer.proofs.Values.{told_same, steps-listed, idle, no_steps, refusa
 use Rattle.lists.proofs.Member.{true≢false}
 use Rattle.table.specs.Table.{whole_sectors, pages, frees}
 use Rattle.plan.specs.declared.Plan.{Plan}
-use Rattle.plan.specs.declared.Plan.TheVariants.{Refuse, Clear, Move}
+use Rattle.plan.specs.declared.Plan.TheVariants.{Clear, Move}
 use Rattle.plan.specs.Plan.{plan}
 use Rattle.reclaim.specs.Reclaim.{plan_steps, reclaiming}
 use Rattle.reclaim.specs.Promise.{reclaim_table, ReclaimPromise}
@@ -42,22 +41,22 @@ module _ (l : List ℕ) (n : ℕ) where
   unfolding reclaim_table number_in
   refused_whole w = record { answer = refusal_told n NotSectors refl (rw w) (no_tagged (not_whole w)); image = idle n l (reclaiming l) (not_whole w) }
 
-  steps_of_lem : (p : Plan) → whole_sectors l ≡ true → plan (pages l) (frees l) ≡ p → reclaiming l ≡ plan_steps l p
+  steps_of_lem : (p : Result Plan Answer) → whole_sectors l ≡ true → plan (pages l) (frees l) ≡ p → reclaiming l ≡ plan_steps l p
   unfolding reclaiming
   steps_of_lem p w e = rw (w, e)
 
-  no-plan-steps : (a : Answer) → whole_sectors l ≡ true → plan (pages l) (frees l) ≡ Refuse a → reclaiming l ≡ []
+  no-plan-steps : (a : Answer) → whole_sectors l ≡ true → plan (pages l) (frees l) ≡ Err a → reclaiming l ≡ []
   unfolding plan_steps
-  no-plan-steps a w e = steps_of_lem (Refuse a) w e
+  no-plan-steps a w e = steps_of_lem (Err a) w e
 
-  pub promised-refusal : (a : Answer) → whole_sectors l ≡ true → plan (pages l) (frees l) ≡ Refuse a → ReclaimPromise l n l a
+  pub promised-refusal : (a : Answer) → whole_sectors l ≡ true → plan (pages l) (frees l) ≡ Err a → ReclaimPromise l n l a
   promised-refusal a w e =
       let q = subst (Numbered l n) e (numbered l n w) in
       let z = no-plan-steps a w e in
       record { answer = refusal_told n a q.0 q.1 (no_tagged z); image = idle n l (reclaiming l) z }
 
   -- of a plan that is no refusal
-  pub promised : (p : Plan) (m : List ℕ) (x : Ran) (r : Answer) → whole_sectors l ≡ true → plan (pages l) (frees l) ≡ p
+  pub promised : (p : Result Plan Answer) (m : List ℕ) (x : Ran) (r : Answer) → whole_sectors l ≡ true → plan (pages l) (frees l) ≡ p
       → (Numbered l n p → number_in (reclaim_table l n) ≡ cond (ltb n (length (reclaiming l))) 7 0) → Did (plan_steps l p) n l m x → r ≡ told_of (in_stage Reclaim x) n → ReclaimPromise l n m r
   promised p m x r w e q d t =
       let s = steps_of_lem p w e in
@@ -86,10 +85,10 @@ module _ (l : List ℕ) (n : ℕ) where
       made : number_in (reclaim_table l n) ≡ cond (ltb n (length (reclaiming l))) 7 0 → ⊥
       made k = true≢false h (no-refusal r (ltb n (length (reclaiming l))) (p.answer.number ∙ k))
 
-      with-plan : whole_sectors l ≡ true → (q : Plan) → plan (pages l) (frees l) ≡ q → Numbered l n q → reclaiming l ≡ []
-      with-plan w (Refuse a) e k = no-plan-steps a w e
-      with-plan w (Clear s) e k = absurd (made k)
-      with-plan w (Move s t q) e k = absurd (made k)
+      with-plan : whole_sectors l ≡ true → (q : Result Plan Answer) → plan (pages l) (frees l) ≡ q → Numbered l n q → reclaiming l ≡ []
+      with-plan w (Err a) e k = no-plan-steps a w e
+      with-plan w (Ok (Clear s)) e k = absurd (made k)
+      with-plan w (Ok (Move s t q)) e k = absurd (made k)
 
       go : (b : Bool) → whole_sectors l ≡ b → (m ≡ l) × (steps_of r ≡ 0)
       go true w = unchanged (with-plan w (plan (pages l) (frees l)) refl (numbered l n w))

@@ -1,35 +1,23 @@
 // Reclaim: the page that wins most by it is copied to a fresh sector without its Erased entries, and erased.
 #![tactic(auto)]
 
-ghost use Rattle.std.specs.Prelude.{◌≡◌, ◌+◌, ◌*◌, ◌≤◌, length};
-ghost use Rattle.crc.specs.Table.{crc_table};
+ghost use Rattle.std.specs.Prelude.{◌≡◌, ◌+◌, ◌*◌, ◌≤◌, length, Ok};
 ghost use Rattle.flash.specs.Did.{Did};
 ghost use Rattle.reclaim.specs.Reclaim.{plan_steps};
 ghost use Rattle.reclaim.specs.Promise.{ReclaimPromise};
 
 use answer::{Answer, Stage};
-use crc::CrcTable;
 use flash::Ran;
 use layout::SECTOR_BYTES;
 use plan::Plan;
 
 // Marks the source Freeing first: a cut before the copy is whole is then seen by recovery, which makes it anew.
-fn move_marked(
-    t: &CrcTable,
-    image: &mut [u8],
-    source: usize,
-    target: usize,
-    sequence: u32,
-    allowance: u64,
-) -> Ran
-    requires { (t.now ≡ crc_table) × (source * 4096 + 4096 ≤ length image.old) × (target * 4096 + 4096 ≤ length image.old) × (source ≡ target → ⊥) }
-    ensures { Did (plan_steps image.old (Plan.Move source target sequence)) allowance image.old image.new result }
+fn move_marked(image: &mut [u8], source: usize, target: usize, sequence: u32, allowance: u64) -> Ran
+    requires { (source * 4096 + 4096 ≤ length image.old) × (target * 4096 + 4096 ≤ length image.old) × (source ≡ target → ⊥) }
+    ensures { Did (plan_steps image.old (Ok (Plan.Move source target sequence))) allowance image.old image.new result }
 {
-    let r = item::mark_freeing(image, source, allowance);
-    let Ran::Done(left) = r else {
-        return Ran::Stopped;
-    };
-    relocate::move_page(t, image, source, target, sequence, left)
+    let left = item::mark_freeing(image, source, allowance)?;
+    relocate::move_page(image, source, target, sequence, left)
 }
 
 // Reclaims one page of the image, making at most `allowance` steps.
@@ -39,14 +27,15 @@ pub fn reclaim(image: &mut [u8], allowance: u64) -> Answer
     if !table::is_whole(image) {
         return Answer::NotSectors;
     }
-    let t = crc::table();
-    let sectors = image.len() / SECTOR_BYTES;
-    let plan = plan::plan_of(table::scan(&t, image, sectors));
+    let table = table::scan(image, image.len() / SECTOR_BYTES);
+    let plan = match plan::plan_of(&table) {
+        Ok(plan) => plan,
+        Err(answer) => return answer,
+    };
     let ran = match plan {
-        Plan::Refuse(answer) => return answer,
         Plan::Clear(source) => flash::erase_sector(image, source, allowance),
         Plan::Move(source, target, sequence) => {
-            move_marked(&t, image, source, target, sequence, allowance)
+            move_marked(image, source, target, sequence, allowance)
         }
     };
     answer::told(answer::in_stage(Stage::Reclaim, ran), allowance)

@@ -19,7 +19,7 @@ module _ {X : Type 0} (f : List ℕ → X) (l : List ℕ) where
   length-each (suc n) = omega (arith, length-append (each_to f l n) (f (sector n l) ∷ []), length-each n)
 
   -- each stands at its sector's number
-  each_at : (n u : ℕ) (d : X) → u < n → get_or (each_to f l n) u d ≡ f (sector u l)
+  pub each_at : (n u : ℕ) (d : X) → u < n → get_or (each_to f l n) u d ≡ f (sector u l)
   unfolding each_to
   each_at zero u d h = absurd (omega arith)
   each_at (suc n) u d h = go (le-or-gt n u) (each_at n u d)
@@ -47,9 +47,3 @@ module _ {X : Type 0} (f : List ℕ → X) (l : List ℕ) where
     -- the rows that count
     pub rows-read : take n (rows n) ≡ each_to f l n
     rows-read = take_at (each_to f l n) (replicate (16 - n) blank) n (length-each n)
-
-    pub rows-there : n ≤ length (rows n)
-    rows-there = omega (arith, length-append (each_to f l n) (replicate (16 - n) blank), length-each n)
-
-    pub row_at : (u : ℕ) (d : X) → u < n → get_or (rows n) u d ≡ f (sector u l)
-    row_at u d h = get_or-append (each_to f l n) _ d u (omega (arith, length-each n)) ∙ each_at n u d h

@@ -4,7 +4,6 @@
 mod scanned;
 
 ghost use Rattle.std.specs.Prelude.{◌≡◌, ◌+◌, ◌*◌, ◌<◌, ◌≤◌, length, get_or};
-ghost use Rattle.crc.specs.Table.{crc_table};
 ghost use Rattle.flash.specs.Step.{sector};
 ghost use Rattle.page.specs.State.{state_of};
 ghost use Rattle.page.specs.Unread.{unread_of};
@@ -12,7 +11,6 @@ ghost use Rattle.records.specs.Records.{filled, blank_record, no_rows, rows_of};
 ghost use Rattle.records.specs.Scanned.{scanned_of};
 ghost use Rattle.records.specs.Notes.{Noted};
 
-use crc::CrcTable;
 use layout::{MOST_SECTORS, SECTOR_BYTES};
 use page::{PageRecord, PageState};
 pub use scanned::{Scanned, see_all};
@@ -48,8 +46,8 @@ pub fn no_rows() -> Rows
 
 // The unread entries of sector `n`, whose state is known: as a walk noted them, one more than they are, or, where nothing is noted, by a walk. (Recovery notes
 // every page that it leaves; the walk spares a proof of that here.)
-fn unread_in(t: &CrcTable, image: &[u8], n: usize, state: PageState, notes: &[u16]) -> u8
-    requires { (t.now ≡ crc_table) × (n * 4096 + 4096 ≤ length image.now) × (n < 16) × (state ≡ state_of (sector n image.now)) × Noted notes.now image.now }
+fn unread_in(image: &[u8], n: usize, state: PageState, notes: &[u16]) -> u8
+    requires { (n * 4096 + 4096 ≤ length image.now) × (n < 16) × (state ≡ state_of (sector n image.now)) × Noted notes.now image.now }
     ensures { result ≡ unread_of (sector n image.now) }
 {
     if page::is_free(state) {
@@ -61,33 +59,20 @@ fn unread_in(t: &CrcTable, image: &[u8], n: usize, state: PageState, notes: &[u1
     }
     let a = n * SECTOR_BYTES;
     let e = a + SECTOR_BYTES;
-    page::unread_of(t, &image[a..e])
+    page::unread_of(&image[a..e])
 }
 
 // The record of each sector that was scanned, in sector order.
-pub fn make_rows(t: &CrcTable, image: &[u8], scanned: Scanned, notes: &[u16]) -> Rows
-    requires { (t.now ≡ crc_table) × (length image.now ≡ scanned.count * 4096) × (scanned.count ≤ 16) × (scanned ≡ scanned_of image.now scanned.count) × Noted notes.now image.now }
-    ensures { result ≡ rows_of image.now scanned.count }
+pub fn make_rows(image: &[u8], scanned: &Scanned, notes: &[u16]) -> Rows
+    requires { (length image.now ≡ length scanned.now.items * 4096) × (scanned.now ≡ scanned_of image.now (length scanned.now.items)) × Noted notes.now image.now }
+    ensures { result ≡ rows_of image.now (length scanned.now.items) }
 {
-    let count = scanned.count;
     let mut rows = [blank_record(); MOST_SECTORS];
-    let mut n: usize = 0;
-    while n < count {
-        let seen = scanned.seen[n];
-        let state = seen.state;
-        let unread = unread_in(t, image, n, state, notes);
-        rows[n] = page::with_unread(seen, unread);
-        n += 1;
+    for (n, seen) in scanned.iter().enumerate() {
+        rows[n] = page::with_unread(*seen, unread_in(image, n, seen.state, notes));
     }
+    let count = scanned.len();
     Rows { rows, count }
-}
-
-// One row of the table: what `fill` stores.
-fn row_at(table: Rows, i: usize) -> PageRecord
-    requires { i < 16 }
-    ensures { result ≡ get_or table.rows i blank_record }
-{
-    table.rows[i]
 }
 
 // The rows go into the lent records; those behind them stay.
@@ -95,10 +80,5 @@ pub fn fill(records: &mut [PageRecord], table: Rows)
     requires { (table.count ≤ 16) × (table.count ≤ length records.old) }
     ensures { records.new ≡ filled table.count table.rows records.old }
 {
-    let count = table.count;
-    let mut i: usize = 0;
-    while i < count {
-        records[i] = row_at(table, i);
-        i += 1;
-    }
+    records[..table.count].copy_from_slice(&table.rows[..table.count]);
 }

@@ -1,47 +1,23 @@
-// What the scan sees of each sector, by value.
+// What the scan sees of each sector.
 ghost use Rattle.std.specs.Prelude.{◌≡◌, ◌*◌, ◌≤◌, length};
-ghost use Rattle.crc.specs.Table.{crc_table};
-ghost use Rattle.page.specs.Record.{free_seen};
-ghost use Rattle.records.specs.Scanned.{blank_seen, scanned_of};
+ghost use Rattle.records.specs.Scanned.{scanned_of};
 
-use crc::CrcTable;
+use arrayvec::ArrayVec;
 use layout::{MOST_SECTORS, SECTOR_BYTES};
-use page::{PageState, Seen};
+use page::Seen;
 
-#[derive(Clone, Copy)]
-pub struct Scanned {
-    pub seen: [Seen; MOST_SECTORS],
-    pub count: usize,
-}
-
-fn blank_seen() -> Seen
-    ensures { result ≡ blank_seen }
-{
-    Seen {
-        state: PageState::Blank,
-        sequence: 0,
-        written: 0,
-        erased: 0,
-        empty: 0,
-        illegal: 0,
-    }
-}
+// One for each sector, in sector order.
+pub type Scanned = ArrayVec<Seen, MOST_SECTORS>;
 
 // Each sector once, in sector order.
-pub fn see_all(t: &CrcTable, image: &[u8], sectors: usize) -> Scanned
-    requires { (t.now ≡ crc_table) × (length image.now ≡ sectors * 4096) × (sectors ≤ 16) }
+pub fn see_all(image: &[u8], sectors: usize) -> Scanned
+    requires { (length image.now ≡ sectors * 4096) × (sectors ≤ 16) }
     ensures { result ≡ scanned_of image.now sectors }
 {
-    let mut seen = [blank_seen(); MOST_SECTORS];
-    let mut n: usize = 0;
-    while n < sectors {
+    let mut scanned: Scanned = ArrayVec::new();
+    for n in 0..sectors {
         let a = n * SECTOR_BYTES;
-        let e = a + SECTOR_BYTES;
-        seen[n] = page::see(t, &image[a..e]);
-        n += 1;
+        scanned.push(page::see(&image[a..a + SECTOR_BYTES]));
     }
-    Scanned {
-        seen,
-        count: sectors,
-    }
+    scanned
 }

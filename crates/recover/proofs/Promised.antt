@@ -1,4 +1,5 @@
 -- From the refusals and from what the stages made to the promise, and from the rows to the records stored. Assumes nothing.
+use Rattle.std.specs.Prelude.{Err, Ok}
 use mathlib.Core.Path.{◌≡◌, refl, sym, ap, ◌∙◌}
 use mathlib.Core.Bool.{Bool, true, false}
 use mathlib.Core.List.{List, [], ◌++◌}
@@ -10,14 +11,12 @@ use borrow.Author.Tests.{le-leb, lt-leb, ltb-true, ltb-false}
 use Rattle.flash.specs.Step.{run}
 use Rattle.flash.proofs.Frame.{length_run}
 use Rattle.answer.specs.declared.Stage.{Stage}
-use Rattle.answer.specs.declared.Went.{Went}
-use Rattle.answer.specs.declared.Went.TheVariants.{Ended, Short}
 use Rattle.answer.specs.declared.Answer.{Answer}
 use Rattle.answer.specs.declared.Answer.TheVariants.{NotSectors, FewRecords, SequencesSpent}
 use Rattle.answer.specs.Answer.{number_of}
 use Rattle.answer.specs.Staged.{Staged, untag}
 use Rattle.answer.specs.Told.{Told}
-use Rattle.answer.specs.Went.{Made, told_of}
+use Rattle.answer.specs.Went.{Made, told_of, Went}
 use Rattle.answer.proofs.Made.{made_idle, told_is}
 use Rattle.answer.proofs.Values.{idle}
 use Rattle.page.specs.declared.«record».PageRecord.{PageRecord}
@@ -37,7 +36,7 @@ pub made_size : {ts : List Staged} {n : ℕ} {l m : List ℕ} {w : Went} → Mad
 made_size {ts} {n} {l} d = ap length d.image ∙ length_run (take n (untag ts)) l
 
 -- no step was made: what was seen of the image as it was found is what is seen of the image that is left
-pub seen_idle : {ts : List Staged} {n : ℕ} {l m : List ℕ} {w : Went} → Made ts n l m w → w ≡ Ended n → (k : ℕ) → scanned_of l k ≡ scanned_of m k
+pub seen_idle : {ts : List Staged} {n : ℕ} {l m : List ℕ} {w : Went} → Made ts n l m w → w ≡ Ok n → (k : ℕ) → scanned_of l k ≡ scanned_of m k
 seen_idle made e k = ap (λ (i : List ℕ). scanned_of i k) (sym (made_idle (rw e at made)))
 
 -- before the stages nothing is noted
@@ -92,7 +91,7 @@ module _ (l : List ℕ) (lent n : ℕ) where
     sectors-are : sectors_of m ≡ sectors_of l
     sectors-are = ap (λ (x : ℕ). x / 4096) (made_size made)
 
-    pub stopped_short : {r : Recovered} {x : Stage} → w ≡ Short x → r.answer ≡ told_of w n → r.rows ≡ no_rows → Recovers l lent n m r
+    pub stopped_short : {r : Recovered} {x : Stage} → w ≡ Err x → r.answer ≡ told_of w n → r.rows ≡ no_rows → Recovers l lent n m r
     stopped_short {r} {x} e a s =
         record {
           answer = answer_as (a ∙ answer_is);
@@ -100,7 +99,7 @@ module _ (l : List ℕ) (lent n : ℕ) where
           rows = rw (a, e) s;
         }
 
-    pub ended-rows : {r : Recovered} {k : ℕ} → w ≡ Ended k → r.answer ≡ told_of w n → r.rows ≡ rows_of m (sectors_of l) → Recovers l lent n m r
+    pub ended-rows : {r : Recovered} {k : ℕ} → w ≡ Ok k → r.answer ≡ told_of w n → r.rows ≡ rows_of m (sectors_of l) → Recovers l lent n m r
     ended-rows {r} {k} e a s =
         record {
           answer = answer_as (a ∙ answer_is);

@@ -1,16 +1,14 @@
 // Recovery: what power loss left unfinished is finished, and what is there twice is left once.
 #![tactic(auto)]
 
-ghost use Rattle.std.specs.Prelude.{◌≡◌, ◌*◌, ◌≤◌, length};
-ghost use Rattle.crc.specs.Table.{crc_table};
-ghost use Rattle.table.specs.Table.{listed, Sized};
+ghost use Rattle.std.specs.Prelude.{◌≡◌, ◌*◌, length};
+ghost use Rattle.table.specs.Table.{listed};
 ghost use Rattle.records.specs.Records.{no_rows};
 ghost use Rattle.records.specs.Scanned.{scanned_of};
 ghost use Rattle.stages.specs.Stages.{too_high};
 ghost use Rattle.recover.specs.Promise.{Recovers, RecoverPromise};
 
 use answer::{Answer, Went};
-use crc::CrcTable;
 use layout::{MOST_SECTORS, SECTOR_BYTES};
 use page::PageRecord;
 use records::{Rows, Scanned};
@@ -24,15 +22,14 @@ pub struct Recovered {
 }
 
 // Whether the sequences that stage 2 might take are not there.
-fn is_too_high(table: Table) -> bool
-    requires { Sized table }
-    ensures { result ≡ too_high (listed table) }
+fn is_too_high(table: &Table) -> bool
+    ensures { result ≡ too_high (listed table.now) }
 {
     let count = finishing::count_freeing(table);
     if count == 0 {
         return false;
     }
-    0xFFFF_FFFE - count < table::greatest_sequence(table) as usize
+    0xFFFF_FFFE - count < table.greatest_sequence() as usize
 }
 
 fn without_rows(answer: Answer) -> Recovered
@@ -45,14 +42,14 @@ fn without_rows(answer: Answer) -> Recovered
 }
 
 // What is seen of the image as the stages left it, with `left` steps still allowed: without a step it is still the one that was scanned.
-fn see_again(t: &CrcTable, image: &[u8], scanned: Scanned, left: u64, allowance: u64) -> Scanned
-    requires { (t.now ≡ crc_table) × (length image.now ≡ scanned.count * 4096) × (scanned.count ≤ 16) × (left ≡ allowance → scanned ≡ scanned_of image.now scanned.count) }
-    ensures { result ≡ scanned_of image.now scanned.count }
+fn see_again(image: &[u8], scanned: Scanned, left: u64, allowance: u64) -> Scanned
+    requires { (length image.now ≡ length scanned.items * 4096) × (left ≡ allowance → scanned ≡ scanned_of image.now (length scanned.items)) }
+    ensures { result ≡ scanned_of image.now (length scanned.items) }
 {
     if left == allowance {
         return scanned;
     }
-    records::see_all(t, image, scanned.count)
+    records::see_all(image, scanned.len())
 }
 
 // Recovers the image by at most `allowance` steps, where `lent` records are lent.
@@ -66,20 +63,19 @@ pub fn recover_image(image: &mut [u8], lent: usize, allowance: u64) -> Recovered
     if lent < sectors {
         return without_rows(Answer::FewRecords);
     }
-    let t = crc::table();
-    let scanned = records::see_all(&t, image, sectors);
-    let table = table::list_seen(scanned);
-    if is_too_high(table) {
+    let scanned = records::see_all(image, sectors);
+    let mut table = table::list_seen(&scanned);
+    if is_too_high(&table) {
         return without_rows(Answer::SequencesSpent);
     }
     let mut notes = [0u16; MOST_SECTORS];
-    let went = stages::make_stages(&t, image, table, &mut notes, allowance);
+    let went = stages::make_stages(image, &mut table, &mut notes, allowance);
     let answer = answer::told(went, allowance);
-    let Went::Ended(left) = went else {
+    let Ok(left) = went else {
         return without_rows(answer);
     };
-    let last = see_again(&t, image, scanned, left, allowance);
-    let rows = records::make_rows(&t, image, last, &notes);
+    let last = see_again(image, scanned, left, allowance);
+    let rows = records::make_rows(image, &last, &notes);
     Recovered { answer, rows }
 }
 

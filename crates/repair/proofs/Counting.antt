@@ -1,4 +1,5 @@
 -- What is noted stays right: of the last marks wherever they are cut, of the whole of stage 4, and where a call does not come to its end. Assumes nothing.
+use Rattle.std.specs.Prelude.{Err}
 use mathlib.Core.Path.{◌≡◌, ap, ◌∙◌}
 use mathlib.Core.List.{List}
 use Prim.Native.Nat.{ℕ}
@@ -8,10 +9,8 @@ use Rattle.flash.specs.Step.{Step, run, sector}
 use Rattle.page.specs.Unread.{unread_from}
 use Rattle.answer.specs.declared.Stage.{Stage}
 use Rattle.answer.specs.declared.Stage.TheVariants.{Duplicates}
-use Rattle.answer.specs.declared.Went.{Went}
-use Rattle.answer.specs.declared.Went.TheVariants.{Short}
 use Rattle.answer.specs.Staged.{tag}
-use Rattle.answer.specs.Went.{Made}
+use Rattle.answer.specs.Went.{Made, Went}
 use Rattle.answer.proofs.Made.{untag-only, made_all}
 use Rattle.records.specs.Notes.{Noted, NoneNoted}
 use Rattle.records.proofs.Noting.{none_noted, noted_same}
@@ -45,5 +44,5 @@ pub none_counted : {notes : List ℕ} (m : List ℕ) (r : Went) → NoneNoted no
 none_counted m r h = λ k e. none_noted m h
 
 -- the call was stopped
-pub stop-counted : {notes : List ℕ} (m : List ℕ) {r : Went} {x : Stage} → r ≡ Short x → Counted notes m r
+pub stop-counted : {notes : List ℕ} (m : List ℕ) {r : Went} {x : Stage} → r ≡ Err x → Counted notes m r
 stop-counted m {r} q = λ k e. absurd (let z : ◌≡◌ {A = ℕ} 0 1 = cc in omega arith)

@@ -16,64 +16,65 @@ mod calls;
 mod items;
 mod recovery;
 
-ghost use Rattle.std.specs.Prelude.{◌≤◌, length as list_length};
+use std::io;
+use std::io::{Error, ErrorKind, Read};
 
-use std::io::Read;
+#[derive(Clone, Copy)]
+enum Op {
+    Recovery,
+    Reclaim,
+    Items,
+    Listing,
+}
 
-// Reads one case into `image`, writes its answer, and says whether to go on.
-fn one_case<R: Read>(rt: &impl Print, input: &mut R, image: &mut [u8]) -> bool {
+impl TryFrom<u8> for Op {
+    type Error = Error;
+
+    fn try_from(op: u8) -> io::Result<Op> {
+        match op {
+            0 => Ok(Op::Recovery),
+            1 => Ok(Op::Reclaim),
+            2 => Ok(Op::Items),
+            3 => Ok(Op::Listing),
+            _ => Err(ErrorKind::InvalidData.into()),
+        }
+    }
+}
+
+// Reads one case into `room` and writes its answer. It fails where the run is to end.
+fn one_case<R: Read>(rt: &impl Print, input: &mut R, room: &mut [u8]) -> io::Result<()> {
     let mut head = [0u8; 17];
-    if input.read_exact(&mut head).is_err() {
-        return false;
-    }
+    input.read_exact(&mut head)?;
     let length = word::le32(&head, 13) as usize;
-    if image.len() < length {
-        return false;
+    if room.len() < length {
+        return Err(ErrorKind::InvalidData.into());
     }
-    if input.read_exact(&mut image[..length]).is_err() {
-        return false;
+    let image = &mut room[..length];
+    input.read_exact(image)?;
+    let allowance = word::le64(&head, 1);
+    match Op::try_from(head[0])? {
+        Op::Recovery => {
+            recovery::answer_recover(rt, image, word::le32(&head, 9) as usize, allowance)
+        }
+        Op::Reclaim => calls::answer_reclaim(rt, image, allowance),
+        Op::Items => answer_items(rt, image),
+        Op::Listing => recovery::answer_listing(rt, image),
     }
-    let lent = word::le32(&head, 9) as usize;
-    answer(rt, head[0], word::le64(&head, 1), lent, image, length)
 }
 
-fn answer(
-    rt: &impl Print,
-    op: u8,
-    allowance: u64,
-    lent: usize,
-    image: &mut [u8],
-    length: usize,
-) -> bool
-    requires { length ≤ list_length image.old }
-{
-    if op == 0 {
-        return recovery::answer_recover(rt, &mut image[..length], lent, allowance);
-    }
-    if op == 1 {
-        return calls::answer_reclaim(rt, &mut image[..length], allowance);
-    }
-    if op == 2 {
-        return answer_items(rt, &image[..length]);
-    }
-    if op == 3 {
-        return recovery::answer_listing(rt, &mut image[..length]);
-    }
-    false
-}
-
-fn answer_items(rt: &impl Print, sector: &[u8]) -> bool {
+fn answer_items(rt: &impl Print, sector: &[u8]) -> io::Result<()> {
     let mut out = [0u8; items::MOST_BYTES];
     let n = items::answer(sector, &mut out);
-    rt.write_all(&out[..n]).is_ok()
+    rt.write_all(&out[..n])
 }
 
-// Nothing says that the input ends, and a proved loop has to: it counts down from a number of cases that no run reaches.
+// Nothing says that the input ends, and a proved loop has to: it counts up to a number of cases that no run reaches.
 fn main(rt: HostRuntime) {
     let mut input = rt.stdin();
     let mut image = [0u8; 131072];
-    let mut left = u64::MAX;
-    while left > 0 && one_case(&rt, &mut input, &mut image) {
-        left -= 1;
+    for _ in 0..u64::MAX {
+        if one_case(&rt, &mut input, &mut image).is_err() {
+            return;
+        }
     }
 }

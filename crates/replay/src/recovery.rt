@@ -1,10 +1,23 @@
 // The answers to op 0, recovery: a call's, and then the records that were lent; and to op 3, the listing.
 ghost use Rattle.std.specs.Prelude.{◌≤◌};
 
-use crate::bytes::{put_byte, put_four};
+use crate::bytes::{low, put_four};
 use crate::calls::write_call;
-use lent::Lent;
+use lent::MOST_LENT;
 use page::{PageRecord, PageState};
+use std::io;
+use std::io::ErrorKind;
+
+// What is lent. No page has so many entries: a record that a call leaves unchanged is told by it.
+const UNCHANGED: PageRecord = PageRecord {
+    state: PageState::Blank,
+    unread: 0xEE,
+    sequence: 0xEEEE_EEEE,
+    written: 0xEE,
+    erased: 0xEE,
+    empty: 0xEE,
+    illegal: 0xEE,
+};
 
 fn state_number(state: PageState) -> u8 {
     match state {
@@ -16,90 +29,48 @@ fn state_number(state: PageState) -> u8 {
     }
 }
 
-// No page has so many entries: a record that a call leaves unchanged is told by it.
-fn unchanged() -> PageRecord {
-    PageRecord {
-        state: PageState::Blank,
-        unread: 0xEE,
-        sequence: 0xEEEE_EEEE,
-        written: 0xEE,
-        erased: 0xEE,
-        empty: 0xEE,
-        illegal: 0xEE,
+fn write_record(rt: &impl Print, r: &PageRecord) -> io::Result<()> {
+    if r.written == UNCHANGED.written {
+        return rt.write_all(&[0xEE; 25]);
     }
-}
-
-fn state_byte(r: PageRecord) -> u8 {
-    if r.written == 0xEE {
-        return 0xEE;
-    }
-    let state = r.state;
-    state_number(state)
-}
-
-// A count as four bytes: an unchanged one is 0xEE in each.
-fn count_word(n: u8) -> u32 {
-    if n == 0xEE {
-        return 0xEEEE_EEEE;
-    }
-    word::wide(n)
-}
-
-fn write_record(rt: &impl Print, r: PageRecord) -> bool {
     let mut out = [0u8; 25];
-    put_byte(&mut out, 0, state_byte(r));
+    out[0] = state_number(r.state);
     put_four(&mut out, 1, r.sequence);
-    put_four(&mut out, 5, count_word(r.written));
-    put_four(&mut out, 9, count_word(r.erased));
-    put_four(&mut out, 13, count_word(r.empty));
-    put_four(&mut out, 17, count_word(r.illegal));
-    put_four(&mut out, 21, count_word(r.unread));
-    rt.write_all(&out).is_ok()
+    put_four(&mut out, 5, u32::from(r.written));
+    put_four(&mut out, 9, u32::from(r.erased));
+    put_four(&mut out, 13, u32::from(r.empty));
+    put_four(&mut out, 17, u32::from(r.illegal));
+    put_four(&mut out, 21, u32::from(r.unread));
+    rt.write_all(&out)
 }
 
-fn write_records(rt: &impl Print, made: Lent, lent: usize) -> bool
-    requires { lent ≤ 32 }
-{
-    let mut head = [0u8; 4];
-    put_four(&mut head, 0, (lent % 65536) as u32);
-    if rt.write_all(&head).is_err() {
-        return false;
+fn write_records(rt: &impl Print, records: &[PageRecord]) -> io::Result<()> {
+    rt.write_all(&low(records.len()).to_le_bytes())?;
+    for r in records {
+        write_record(rt, r)?;
     }
-    let mut i: usize = 0;
-    while i < lent {
-        let r = made.records[i];
-        if !write_record(rt, r) {
-            return false;
-        }
-        i += 1;
-    }
-    true
+    Ok(())
 }
 
-pub fn answer_recover(rt: &impl Print, image: &mut [u8], lent: usize, allowance: u64) -> bool {
-    if 32 < lent {
-        return false;
+pub fn answer_recover(
+    rt: &impl Print,
+    image: &mut [u8],
+    lent: usize,
+    allowance: u64,
+) -> io::Result<()> {
+    if lent > MOST_LENT {
+        return Err(ErrorKind::InvalidData.into());
     }
-    let given = [unchanged(); 32];
-    let made = lent::recover_lent(image, given, lent, allowance);
-    let answer = made.answer;
-    if write_call(rt, answer, image) {
-        write_records(rt, made, lent)
-    } else {
-        false
-    }
+    let made = lent::recover_lent(image, [UNCHANGED; MOST_LENT], lent, allowance);
+    write_call(rt, made.answer, image)?;
+    write_records(rt, &made.records[..lent])
 }
 
 // The text's length, and the text.
-pub fn answer_listing(rt: &impl Print, image: &mut [u8]) -> bool {
+pub fn answer_listing(rt: &impl Print, image: &mut [u8]) -> io::Result<()> {
     let length = image.len() as u64;
     let mut out = [0u8; 2048];
     let n = listing::list_image(image, length, &mut out);
-    let mut head = [0u8; 4];
-    put_four(&mut head, 0, (n % 65536) as u32);
-    if rt.write_all(&head).is_ok() {
-        rt.write_all(&out[..n]).is_ok()
-    } else {
-        false
-    }
+    rt.write_all(&low(n).to_le_bytes())?;
+    rt.write_all(&out[..n])
 }

@@ -1,4 +1,5 @@
 -- One place more: its item is passed over, or put at the free slot at which the search for its name ends. Assumes nothing.
+use Rattle.std.specs.Prelude.{Some, None}
 use mathlib.Core.Path.{◌≡◌, refl, sym, ap, ◌∙◌}
 use mathlib.Core.Logic.{inl}
 use mathlib.Core.Bool.{Bool, true, false}
@@ -20,10 +21,9 @@ use Rattle.found.specs.Places.{Placed}
 use Rattle.lists.specs.Each.{Each}
 use Rattle.lists.proofs.Each.{each_append, each_of, of_each}
 use Rattle.slots.specs.Names.{judged, name_of}
-use Rattle.slots.specs.declared.Stop.{Stop}
 use Rattle.slots.specs.Slots.{EachSlot, Leads, raw_at, stop_of, told}
 use Rattle.slots.specs.Named.{Filled, Led, Named, Stands, Stopped, called}
-use Rattle.slots.proofs.Looking.{each_set, kept, new}
+use Rattle.slots.proofs.Looking.{each_set, kept, new, stop_below}
 
 -- a table of free slots has no items
 module _ (t l : List ℕ) (free : (i : ℕ) → get_or t i 0 ≡ 0) where
@@ -69,16 +69,19 @@ module _ (t l ps : List ℕ) (p : ℕ) (named : Named t l ps) where
         stands = named.stands;
       }
 
-  module _ (s : ℕ) (room : 4096 ≤ length t) (is : judged (raw_at l p) ≡ true) (some : 1 ≤ p) (free : s < 4096) (e : s ≡ (stop_of t l (name_of (raw_at l p))).slot) (none : (stop_of t l (name_of (raw_at l p))).place ≡ 0) where
+  module _ (s : ℕ) (room : 4096 ≤ length t) (is : judged (raw_at l p) ≡ true) (some : 1 ≤ p) (ends : stop_of t l (name_of (raw_at l p)) ≡ Some s) (free : get_or t s 0 ≡ 0) where
     abbrev k : ℕ
     k = name_of (raw_at l p)
 
-    put-there : (get_or t s 0 ≡ 0) × (stop_of (set t s p) l k ≡ record { slot = s; place = p })
-    put-there = rw e (new t l k p some (eq-eqb k k refl) room none (rw e at free))
+    inside : s < length t
+    inside = let h = stop_below t l k s ends in omega arith
+
+    put-there : (stop_of (set t s p) l k ≡ Some s) × (told (set t s p) l k ≡ p)
+    put-there = new t l k s p free (eq-eqb k k refl) inside ends
 
     -- the searches that ended at an item end there still
-    stays : (j : ℕ) → 1 ≤ (stop_of t l j).place → stop_of (set t s p) l j ≡ stop_of t l j
-    stays j = kept t l j s p put-there.0
+    stays : (j : ℕ) → 1 ≤ told t l j → (stop_of (set t s p) l j ≡ stop_of t l j) × (told (set t s p) l j ≡ told t l j)
+    stays j = kept t l j s p free
 
     -- its name was not there
     unheard : (q : ℕ) → q ∈ ps → (b : Bool) → called k (raw_at l q) ≡ b → one b ≡ 0
@@ -86,7 +89,7 @@ module _ (t l ps : List ℕ) (p : ℕ) (named : Named t l ps) where
     unheard q m true c =
         let r = raw_at l q in
         let o = of_each (Led t l) ps named.led q m (both_first (judged r) _ c) in
-        let z : told t l k ≡ 0 = none in
+        let z : told t l k ≡ 0 = rw ends free in
         let w : told t l k ≡ q = ap (told t l) (sym (eqb-true (name_of r) k (both-second (judged r) _ c))) ∙ o.1 in
         absurd (omega (arith, o.0))
     unheard q m false c = refl
@@ -103,27 +106,23 @@ module _ (t l ps : List ℕ) (p : ℕ) (named : Named t l ps) where
         go false c = let n : one (called j (raw_at l p)) ≡ 0 = rw c in omega (arith, calls l ps p j, named.once j)
 
     led-still : (q : ℕ) → Led t l q → Led (set t s p) l q
-    unfolding told
-    led-still q led j = let o = led j in (o.0, ap (λ (u : Stop). u.place) (stays (name_of (raw_at l q)) (omega (arith, o))) ∙ o.1)
-
-    led-new : Led (set t s p) l p
-    unfolding told
-    led-new j = (some, ap (λ (u : Stop). u.place) put-there.1)
+    led-still q led j = let o = led j in (o.0, (stays (name_of (raw_at l q)) (omega (arith, o))).1 ∙ o.1)
 
     stands : Stands (set t s p) l
+    unfolding told
     stands =
-        each_set (λ (i q : ℕ). stop_of (set t s p) l (name_of (raw_at l q)) ≡ record { slot = i; place = q }) t s p (omega arith)
-        (λ i h. let o = named.stands i h in stays (name_of (raw_at l (get_or t i 0))) (omega (arith, ap (λ (u : Stop). u.place) o)) ∙ o)
-        put-there.1
+        each_set (λ (i q : ℕ). stop_of (set t s p) l (name_of (raw_at l q)) ≡ Some i) t s p inside
+        (λ i h. let o = named.stands i h in (stays (name_of (raw_at l (get_or t i 0))) (rw o h)).0 ∙ o)
+        put-there.0
 
     named_put : Named (set t s p) l (ps ++ (p ∷ []))
     unfolding Each
     named_put =
         record {
-          led = each_append (Led (set t s p) l) ps (p ∷ []) (each_of (Led (set t s p) l) ps (λ q m. led-still q (of_each (Led t l) ps named.led q m))) (led-new, tt);
+          led = each_append (Led (set t s p) l) ps (p ∷ []) (each_of (Led (set t s p) l) ps (λ q m. led-still q (of_each (Led t l) ps named.led q m))) (λ j. (some, put-there.1), tt);
           once = once;
-          only = each_set (λ (i q : ℕ). some_of (eqb q) (ps ++ (p ∷ [])) ≡ true) t s p (omega arith) (λ i h. still l ps p _ (named.only i h)) (last l ps p);
-          judges = each_set (λ (i q : ℕ). judged (raw_at l q) ≡ true) t s p (omega arith) named.judges is;
+          only = each_set (λ (i q : ℕ). some_of (eqb q) (ps ++ (p ∷ [])) ≡ true) t s p inside (λ i h. still l ps p _ (named.only i h)) (last l ps p);
+          judges = each_set (λ (i q : ℕ). judged (raw_at l q) ≡ true) t s p inside named.judges is;
           stands = stands;
         }
 
@@ -136,7 +135,7 @@ module _ (t u l ps : List ℕ) (i : ℕ) (here : i < length ps) (before : Filled
   front xs = append_assoc xs (take i ps) (get_or ps i 0 ∷ []) ∙ ap (λ (ys : List ℕ). xs ++ ys) (rw add-one (sym (take-suc ps i 0 here)))
 
   -- at this place it stops
-  pub stopped : judged (raw_at l (get_or ps i 0)) ≡ true → ((stop_of u l (name_of (raw_at l (get_or ps i 0)))).place ≡ 0 → 4096 ≤ (stop_of u l (name_of (raw_at l (get_or ps i 0)))).slot)
+  pub stopped : judged (raw_at l (get_or ps i 0)) ≡ true → (told u l (name_of (raw_at l (get_or ps i 0))) ≡ 0 → stop_of u l (name_of (raw_at l (get_or ps i 0))) ≡ None)
       → (xs : List ℕ) → Named t l xs → Stopped u l (xs ++ ps)
   stopped is none xs n =
       record {
@@ -155,12 +154,14 @@ module _ (t u l ps : List ℕ) (i : ℕ) (here : i < length ps) (before : Filled
   pub passed : judged (raw_at l (get_or ps i 0)) ≡ false → Filled t u l (take (i + 1) ps)
   passed e = record { leads = before.leads; named = λ xs n. rw (front xs) at (named-passed u l (xs ++ take i ps) (get_or ps i 0) (before.named xs n) e) }
 
-  module _ (placed : Placed l (get_or ps i 0)) (is : judged (raw_at l (get_or ps i 0)) ≡ true) (s : ℕ) (free : s < 4096) (e : s ≡ (stop_of u l (name_of (raw_at l (get_or ps i 0)))).slot) (none : (stop_of u l (name_of (raw_at l (get_or ps i 0)))).place ≡ 0) where
+  module _ (placed : Placed l (get_or ps i 0)) (is : judged (raw_at l (get_or ps i 0)) ≡ true) (s : ℕ) (ends : stop_of u l (name_of (raw_at l (get_or ps i 0))) ≡ Some s) (free : get_or u s 0 ≡ 0) where
     pub put : Filled t (set u s (get_or ps i 0)) l (take (i + 1) ps)
     put =
         let p = get_or ps i 0 in
         let room = before.leads.room in
+        let below = stop_below u l (name_of (raw_at l p)) s ends in
+        let inside : s < length u = omega arith in
         record {
-          leads = record { room = simp length-set room; each = each_set (λ (i q : ℕ). Placed l q) u s p (omega arith) before.leads.each placed };
-          named = λ xs n. rw (front xs) at (named_put u l (xs ++ take i ps) p (before.named xs n) s room is (omega (arith, placed.entries)) free e none);
+          leads = record { room = simp length-set room; each = each_set (λ (i q : ℕ). Placed l q) u s p inside before.leads.each placed };
+          named = λ xs n. rw (front xs) at (named_put u l (xs ++ take i ps) p (before.named xs n) s room is (omega (arith, placed.entries)) ends free);
         }

@@ -1,16 +1,18 @@
 -- The table's search, a slot at a time; and what a slot that is filled changes of it. Assumes nothing.
-use mathlib.Core.Path.{◌≡◌, refl, ap, ◌∙◌}
-use mathlib.Core.Bool.{Bool, true, false, cond, ◌||◌}
+use Rattle.std.specs.Prelude.{Option, Some, None, unwrap_or, IfSome}
+use Rattle.std.specs.Bool.{then_some}
+use mathlib.Core.Path.{◌≡◌, refl, sym, ap, ◌∙◌}
+use mathlib.Core.Bool.{Bool, true, false, cond, not, ◌||◌}
 use mathlib.Core.List.{List}
 use Prim.Native.Nat.{ℕ, zero, suc, ◌+◌, ◌-◌, ◌%◌, ◌<◌, ◌≤◌}
 use native.Mathlib.Omega.{arith}
 use lib.Dec.{eqb, ltb}
 use lib.ListN.{length, get_or, set, get_or-eq_default}
 use lib.Seq.{get_or-set_same, get_or-set_other}
-use borrow.Author.Tests.{eq-eqb, ne_eqb, eqb-true, eqb-false, ltb-false, ltb-true}
+use borrow.Author.Tests.{ne_eqb, eqb-true, eqb-false, ltb-false, ltb-true}
+use Rattle.page.proofs.Tests.{either_second, neither_first, neither-second}
 use Rattle.slots.specs.Names.{name_of, slot_in, slot_of}
-use Rattle.slots.specs.declared.Stop.{Stop}
-use Rattle.slots.specs.Slots.{EachSlot, hit, raw_at, stop, stop_of, told}
+use Rattle.slots.specs.Slots.{EachSlot, hit, place_in, raw_at, stop, stop_of, told}
 
 pub slot-below : (k : ℕ) → slot_of k < 4096
 unfolding slot_of slot_in
@@ -25,50 +27,72 @@ slot_in_lem t i h = go (ltb i (length t)) refl
     go false e = let z = get_or-eq_default t 0 (ltb-false i (length t) e) in absurd (omega arith)
 
 module _ (t l : List ℕ) (k : ℕ) where
+  -- the search ends at slot i
+  abbrev pub ends : ℕ → Bool
+  ends i = eqb (get_or t i 0) 0 || hit l k (get_or t i 0)
+
   -- ---- one slot, as the code counts
   module _ (n i : ℕ) (h : n < 64) where
     one_less : 64 - n ≡ suc (64 - (n + 1))
     one_less = omega arith
 
-    pub stop_free : get_or t i 0 ≡ 0 → stop t l k (64 - n) i ≡ record { slot = i; place = get_or t i 0 }
+    pub stop_here : ends i ≡ true → stop t l k (64 - n) i ≡ Some i
     unfolding stop
-    stop_free e = rw (one_less, eq-eqb _ 0 e)
+    stop_here e = rw (one_less, e)
 
-    pub stop-hit : (get_or t i 0 ≡ 0 → ⊥) → hit l k (get_or t i 0) ≡ true → stop t l k (64 - n) i ≡ record { slot = i; place = get_or t i 0 }
+    pub stop_on : ends i ≡ false → stop t l k (64 - n) i ≡ stop t l k (64 - (n + 1)) ((i + 1) % 4096)
     unfolding stop
-    stop-hit e p = rw (one_less, ne_eqb _ 0 e, p)
+    stop_on e = rw (one_less, e)
 
-    pub stop-miss : (get_or t i 0 ≡ 0 → ⊥) → hit l k (get_or t i 0) ≡ false → stop t l k (64 - n) i ≡ stop t l k (64 - (n + 1)) ((i + 1) % 4096)
-    unfolding stop
-    stop-miss e p = rw (one_less, ne_eqb _ 0 e, p)
-
-  pub stop_end : (n i : ℕ) → 64 ≤ n → stop t l k (64 - n) i ≡ record { slot = 4096; place = 0 }
+  pub stop_end : (i : ℕ) → stop t l k 0 i ≡ None
   unfolding stop
-  stop_end n i h =
-      let q : 64 - n ≡ 0 = omega arith in
-      rw q
+  stop_end i = refl
+
+  -- ---- the slot at which it ends
+  stop_at : (n i : ℕ) → i < 4096 → (s : ℕ) → stop t l k n i ≡ Some s → (s < 4096) × (ends s ≡ true)
+  unfolding stop
+  stop_at zero i m s e = cc
+  stop_at (suc n) i m s e = go (ends i) refl e (stop_at n ((i + 1) % 4096) (omega arith) s)
+    where
+      go : (b : Bool) → ends i ≡ b → cond b (Some i) (stop t l k n ((i + 1) % 4096)) ≡ Some s → (stop t l k n ((i + 1) % 4096) ≡ Some s → (s < 4096) × (ends s ≡ true)) → (s < 4096) × (ends s ≡ true)
+      go true q e ih = let z : i ≡ s = cc in rw (← z) (m, q)
+      go false q e ih = ih e
+
+  pub stop_below : (s : ℕ) → stop_of t l k ≡ Some s → s < 4096
+  unfolding stop_of
+  stop_below s e = (stop_at 64 (slot_of k) (slot-below k) s e).0
+
+  pub told_none : stop_of t l k ≡ None → told t l k ≡ 0
+  unfolding told
+  told_none e = rw e
+
+  pub told_some : (s : ℕ) → stop_of t l k ≡ Some s → told t l k ≡ get_or t s 0
+  unfolding told
+  told_some s e = rw e
 
   -- ---- what holds of each hit that stands in a slot holds of what a search finds
-  module _ (P : ℕ → Type 0) (each : (i : ℕ) → 1 ≤ get_or t i 0 → hit l k (get_or t i 0) ≡ true → P (get_or t i 0)) where
-    stop-each : (n i : ℕ) → 1 ≤ (stop t l k n i).place → P (stop t l k n i).place
-    unfolding stop
-    stop-each zero i h = absurd (omega arith)
-    stop-each (suc n) i h = go (stop t l k n ((i + 1) % 4096)) (eqb (get_or t i 0) 0) refl (hit l k (get_or t i 0)) refl h (stop-each n ((i + 1) % 4096))
-      where
-        go : (on : Stop) (a : Bool) → eqb (get_or t i 0) 0 ≡ a → (b : Bool) → hit l k (get_or t i 0) ≡ b → 1 ≤ (cond (a || b) (record { slot = i; place = get_or t i 0 }) on).place → (1 ≤ on.place → P on.place) → P (cond (a || b) (record { slot = i; place = get_or t i 0 }) on).place
-        go on true p b q g ih = let some : 1 ≤ get_or t i 0 = g in absurd (omega (arith, eqb-true (get_or t i 0) 0 p))
-        go on false p true q g ih = each i g q
-        go on false p false q g ih = ih g
+  told_each : (P : ℕ → Type 0) → ((i : ℕ) → 1 ≤ get_or t i 0 → hit l k (get_or t i 0) ≡ true → P (get_or t i 0)) → 1 ≤ told t l k → P (told t l k)
+  unfolding told stop_of
+  told_each P each h = go (stop t l k 64 (slot_of k)) refl h
+    where
+      at : (s : ℕ) → 1 ≤ get_or t s 0 → (b : Bool) → eqb (get_or t s 0) 0 ≡ b → (b || hit l k (get_or t s 0)) ≡ true → hit l k (get_or t s 0) ≡ true
+      at s h true q e = absurd (omega (arith, eqb-true (get_or t s 0) 0 q))
+      at s h false q e = e
 
-    told_each : 1 ≤ told t l k → P (told t l k)
-    unfolding told stop_of
-    told_each h = stop-each 64 (slot_of k) h
+      go : (o : Option ℕ) → stop t l k 64 (slot_of k) ≡ o → 1 ≤ place_in t o → P (place_in t o)
+      go None e h = absurd (omega arith)
+      go (Some s) e h = each s h (at s h (eqb (get_or t s 0) 0) refl (stop_at 64 (slot_of k) (slot-below k) s e).1)
 
   pub told_name : 1 ≤ told t l k → name_of (raw_at l (told t l k)) ≡ k
   told_name h = eqb-true _ k (told_each (λ (p : ℕ). hit l k p ≡ true) (λ i g e. e) h)
 
   pub told_slot : (P : ℕ → Type 0) → EachSlot P t → 1 ≤ told t l k → P (told t l k)
   told_slot P each h = told_each P (λ i g e. each i g) h
+
+-- a place that is not 0, as an answer
+pub found_place : (P : ℕ → Type 0) (n p : ℕ) → n ≡ p → (1 ≤ p → P p) → (unwrap_or (then_some (not (eqb p 0)) p) 0 ≡ n) × IfSome (then_some (not (eqb p 0)) p) P
+found_place P n zero e h = (sym e, tt)
+found_place P n (suc p) e h = rw (ne_eqb (suc p) 0 (λ z. omega arith)) (sym e, h (omega arith))
 
 -- ---- a free slot is filled with place v
 pub each_set : (P : ℕ → ℕ → Type 0) (t : List ℕ) (s v : ℕ) → s < length t → ((i : ℕ) → 1 ≤ get_or t i 0 → P i (get_or t i 0)) → P s v → (i : ℕ) → 1 ≤ get_or (set t s v) i 0 → P i (get_or (set t s v) i 0)
@@ -80,67 +104,69 @@ each_set P t s v room each new i h = go (eqb i s) refl
         let o = get_or-set_other t s i v 0 (eqb-false i s q) in
         rw o (each i (rw o at h))
 
+module _ (t l : List ℕ) (k s v : ℕ) (free : get_or t s 0 ≡ 0) where
+  -- another slot, which is not free, stays
+  other-slot : (i : ℕ) → (get_or t i 0 ≡ 0 → ⊥) → get_or (set t s v) i 0 ≡ get_or t i 0
+  other-slot i e = get_or-set_other t s i v 0 (λ q. e (ap (λ (j : ℕ). get_or t j 0) q ∙ free))
+
+  -- a search that passes a slot passes it still
+  passes : (i : ℕ) → ends t l k i ≡ false → ends (set t s v) l k i ≡ false
+  passes i e =
+      let some = eqb-false (get_or t i 0) 0 (neither_first _ _ e) in
+      rw (other-slot i some, ne_eqb (get_or t i 0) 0 some) (neither-second _ _ e)
+
+  -- where it ended at an item it goes as it went
+  stop-kept : (n i : ℕ) → 1 ≤ place_in t (stop t l k n i) → stop (set t s v) l k n i ≡ stop t l k n i
+  unfolding stop
+  stop-kept zero i h = refl
+  stop-kept (suc n) i h = go (ends t l k i) refl h (stop-kept n ((i + 1) % 4096))
+    where
+      go : (b : Bool) → ends t l k i ≡ b → 1 ≤ place_in t (cond b (Some i) (stop t l k n ((i + 1) % 4096))) → (1 ≤ place_in t (stop t l k n ((i + 1) % 4096)) → stop (set t s v) l k n ((i + 1) % 4096) ≡ stop t l k n ((i + 1) % 4096))
+          → stop (set t s v) l k (suc n) i ≡ cond b (Some i) (stop t l k n ((i + 1) % 4096))
+      go true q g ih = rw (other-slot i (λ z. omega arith), q)
+      go false q g ih = rw (passes i q) (ih g)
+
+  pub kept : 1 ≤ told t l k → (stop_of (set t s v) l k ≡ stop_of t l k) × (told (set t s v) l k ≡ told t l k)
+  unfolding told stop_of
+  kept h = let e = stop-kept 64 (slot_of k) h in (e, rw e (go (stop t l k 64 (slot_of k)) h))
+    where
+      go : (o : Option ℕ) → 1 ≤ place_in t o → place_in (set t s v) o ≡ place_in t o
+      go None h = refl
+      go (Some i) h = other-slot i (λ z. omega arith)
+
+  -- where the search for the name of v ends at the free slot, it ends there once v stands in it
+  module _ (named : hit l k v ≡ true) (room : s < length t) where
+    stop-filled : (n i : ℕ) → stop t l k n i ≡ Some s → stop (set t s v) l k n i ≡ Some s
+    unfolding stop
+    stop-filled zero i e = cc
+    stop-filled (suc n) i e = go (ends t l k i) refl e (stop-filled n ((i + 1) % 4096))
+      where
+        go : (b : Bool) → ends t l k i ≡ b → cond b (Some i) (stop t l k n ((i + 1) % 4096)) ≡ Some s → (stop t l k n ((i + 1) % 4096) ≡ Some s → stop (set t s v) l k n ((i + 1) % 4096) ≡ Some s)
+            → stop (set t s v) l k (suc n) i ≡ Some s
+        go true q f ih = let z : i ≡ s = cc in rw (z, get_or-set_same t s v 0 room, either_second (eqb v 0) (hit l k v) named)
+        go false q f ih = rw (passes i q) (ih f)
+
+    pub new : stop_of t l k ≡ Some s → (stop_of (set t s v) l k ≡ Some s) × (told (set t s v) l k ≡ v)
+    unfolding told stop_of
+    new e = let f = stop-filled 64 (slot_of k) e in (f, rw f (get_or-set_same t s v 0 room))
+
+-- ---- where it ends at no slot, those that it looked at hold items of other names
 module _ (t l : List ℕ) (k : ℕ) where
-  -- where the search does not end at the slot, it goes as it went
-  module _ (s v : ℕ) (free : get_or t s 0 ≡ 0) where
-    other-slot : (i : ℕ) → (get_or t i 0 ≡ 0 → ⊥) → get_or (set t s v) i 0 ≡ get_or t i 0
-    other-slot i e = get_or-set_other t s i v 0 (λ q. e (ap (λ (j : ℕ). get_or t j 0) q ∙ free))
-
-    stop-kept : (n i : ℕ) → 1 ≤ (stop t l k n i).place → stop (set t s v) l k n i ≡ stop t l k n i
-    unfolding stop
-    stop-kept zero i h = refl
-    stop-kept (suc n) i h = go (stop t l k n ((i + 1) % 4096)) (eqb (get_or t i 0) 0) refl (hit l k (get_or t i 0)) refl h (stop-kept n ((i + 1) % 4096))
-      where
-        go : (on : Stop) (a : Bool) → eqb (get_or t i 0) 0 ≡ a → (b : Bool) → hit l k (get_or t i 0) ≡ b → 1 ≤ (cond (a || b) (record { slot = i; place = get_or t i 0 }) on).place → (1 ≤ on.place → stop (set t s v) l k n ((i + 1) % 4096) ≡ on)
-            → stop (set t s v) l k (suc n) i ≡ cond (a || b) (record { slot = i; place = get_or t i 0 }) on
-        go on true p b q g ih = let some : 1 ≤ get_or t i 0 = g in absurd (omega (arith, eqb-true (get_or t i 0) 0 p))
-        go on false p true q g ih = rw (other-slot i (eqb-false _ 0 p), p, q)
-        go on false p false q g ih = rw (other-slot i (eqb-false _ 0 p), p, q) (ih g)
-
-    pub kept : 1 ≤ (stop_of t l k).place → stop_of (set t s v) l k ≡ stop_of t l k
-    unfolding stop_of
-    kept h = stop-kept 64 (slot_of k) h
-
-  -- where the search for the name of v ends at a free slot, it ends there at v once the slot is filled
-  module _ (v : ℕ) (some : 1 ≤ v) (named : hit l k v ≡ true) (room : 4096 ≤ length t) where
-    stop-filled : (n i : ℕ) → i < 4096 → (stop t l k n i).place ≡ 0 → (stop t l k n i).slot < 4096
-        → (get_or t (stop t l k n i).slot 0 ≡ 0) × (stop (set t (stop t l k n i).slot v) l k n i ≡ record { slot = (stop t l k n i).slot; place = v })
-    unfolding stop
-    stop-filled zero i m e h = absurd (omega arith)
-    stop-filled (suc n) i m e h = go (stop t l k n ((i + 1) % 4096)) (eqb (get_or t i 0) 0) refl (hit l k (get_or t i 0)) refl e h (stop-filled n ((i + 1) % 4096) (omega arith))
-      where
-        go : (on : Stop) (a : Bool) → eqb (get_or t i 0) 0 ≡ a → (b : Bool) → hit l k (get_or t i 0) ≡ b → (cond (a || b) (record { slot = i; place = get_or t i 0 }) on).place ≡ 0 → (cond (a || b) (record { slot = i; place = get_or t i 0 }) on).slot < 4096
-            → (on.place ≡ 0 → on.slot < 4096 → (get_or t on.slot 0 ≡ 0) × (stop (set t on.slot v) l k n ((i + 1) % 4096) ≡ record { slot = on.slot; place = v }))
-            → (get_or t (cond (a || b) (record { slot = i; place = get_or t i 0 }) on).slot 0 ≡ 0)
-            × (stop (set t (cond (a || b) (record { slot = i; place = get_or t i 0 }) on).slot v) l k (suc n) i ≡ record { slot = (cond (a || b) (record { slot = i; place = get_or t i 0 }) on).slot; place = v })
-        go on true p b q f g ih =
-            let here : get_or (set t i v) i 0 ≡ v = get_or-set_same t i v 0 (omega arith) in
-            (eqb-true _ 0 p, rw (here, ne_eqb v 0 (λ z. omega arith), named))
-        go on false p true q f g ih = absurd (eqb-false _ 0 p f)
-        go on false p false q f g ih = let r = ih f g in (r.0, rw (other-slot on.slot v r.0 i (eqb-false _ 0 p), p, q) r.1)
-
-    pub new : (stop_of t l k).place ≡ 0 → (stop_of t l k).slot < 4096 → (get_or t (stop_of t l k).slot 0 ≡ 0) × (stop_of (set t (stop_of t l k).slot v) l k ≡ record { slot = (stop_of t l k).slot; place = v })
-    unfolding stop_of
-    new e h = stop-filled 64 (slot_of k) (slot-below k) e h
-
-  -- where it ends at no slot, those that it looked at hold items of other names
-  stop-full : (n i : ℕ) → i < 4096 → 4096 ≤ (stop t l k n i).slot → (j : ℕ) → j < n → (1 ≤ get_or t ((i + j) % 4096) 0) × (hit l k (get_or t ((i + j) % 4096) 0) ≡ false)
+  stop-full : (n i : ℕ) → i < 4096 → stop t l k n i ≡ None → (j : ℕ) → j < n → ends t l k ((i + j) % 4096) ≡ false
   unfolding stop
   stop-full zero i m e j h = absurd (omega arith)
-  stop-full (suc n) i m e j h = go (stop t l k n ((i + 1) % 4096)) (eqb (get_or t i 0) 0) refl (hit l k (get_or t i 0)) refl e (stop-full n ((i + 1) % 4096) (omega arith)) j h
+  stop-full (suc n) i m e j h = go (ends t l k i) refl e (stop-full n ((i + 1) % 4096) (omega arith)) j h
     where
-      go : (on : Stop) (a : Bool) → eqb (get_or t i 0) 0 ≡ a → (b : Bool) → hit l k (get_or t i 0) ≡ b → 4096 ≤ (cond (a || b) (record { slot = i; place = get_or t i 0 }) on).slot
-          → (4096 ≤ on.slot → (j : ℕ) → j < n → (1 ≤ get_or t (((i + 1) % 4096 + j) % 4096) 0) × (hit l k (get_or t (((i + 1) % 4096 + j) % 4096) 0) ≡ false))
-          → (j : ℕ) → j < suc n → (1 ≤ get_or t ((i + j) % 4096) 0) × (hit l k (get_or t ((i + j) % 4096) 0) ≡ false)
-      go on true p b q f ih j h = let z : 4096 ≤ i = f in absurd (omega arith)
-      go on false p true q f ih j h = let z : 4096 ≤ i = f in absurd (omega arith)
-      go on false p false q f ih zero h =
-          let here : (i + 0) % 4096 ≡ i = omega arith in
-          rw here (let z = eqb-false (get_or t i 0) 0 p in omega arith, q)
-      go on false p false q f ih (suc j) h =
-          let next : (i + suc j) % 4096 ≡ ((i + 1) % 4096 + j) % 4096 = omega arith in
-          rw next (ih f j (omega arith))
+      go : (b : Bool) → ends t l k i ≡ b → cond b (Some i) (stop t l k n ((i + 1) % 4096)) ≡ None → (stop t l k n ((i + 1) % 4096) ≡ None → (j : ℕ) → j < n → ends t l k (((i + 1) % 4096 + j) % 4096) ≡ false)
+          → (j : ℕ) → j < suc n → ends t l k ((i + j) % 4096) ≡ false
+      go true q f ih j h = cc
+      go false q f ih zero h = let here : (i + 0) % 4096 ≡ i = omega arith in rw here q
+      go false q f ih (suc j) h = let next : (i + suc j) % 4096 ≡ ((i + 1) % 4096 + j) % 4096 = omega arith in rw next (ih f j (omega arith))
 
-  pub full : 4096 ≤ (stop_of t l k).slot → (j : ℕ) → j < 64 → (1 ≤ get_or t ((slot_of k + j) % 4096) 0) × (hit l k (get_or t ((slot_of k + j) % 4096) 0) ≡ false)
+  pub full : stop_of t l k ≡ None → (j : ℕ) → j < 64 → (1 ≤ get_or t ((slot_of k + j) % 4096) 0) × (hit l k (get_or t ((slot_of k + j) % 4096) 0) ≡ false)
   unfolding stop_of
-  full e j h = stop-full 64 (slot_of k) (slot-below k) e j h
+  full e j h =
+      let p = get_or t ((slot_of k + j) % 4096) 0 in
+      let f = stop-full 64 (slot_of k) (slot-below k) e j h in
+      let z = eqb-false p 0 (neither_first _ _ f) in
+      (omega arith, neither-second (eqb p 0) (hit l k p) f)

@@ -1,5 +1,5 @@
 -- Bridge: what the table leads to where judged items are filled in, and where one is refused. Assumes nothing.
-use Rattle.std.specs.Prelude.{◌≡◌, Bool, true, ◌&&◌, List, ◌∷◌, ◌++◌, ℕ, ◌≤◌, eqb, get_or}
+use Rattle.std.specs.Prelude.{◌≡◌, Bool, true, ◌&&◌, List, ◌∷◌, ◌++◌, ℕ, ◌≤◌, eqb, get_or, Some, None}
 use Rattle.entry.specs.States.{one}
 use Rattle.lists.specs.Lists.{some_of, sum_of}
 use Rattle.lists.specs.Each.{Each}
@@ -21,7 +21,7 @@ module _ (t l : List ℕ) where
 
   -- each item in the table stands where the search for its name ends: so none stands there twice
   abbrev pub Stands : Type 0
-  Stands = (i : ℕ) → 1 ≤ get_or t i 0 → stop_of t l (name_of (raw_at l (get_or t i 0))) ≡ record { slot = i; place = get_or t i 0 }
+  Stands = (i : ℕ) → 1 ≤ get_or t i 0 → stop_of t l (name_of (raw_at l (get_or t i 0))) ≡ Some i
 
   -- the table has the judged items at the places ps and no others, and no two of them have one name
   pub record Named (ps : List ℕ) : Type 0 where
@@ -45,4 +45,4 @@ pub record Stopped (t l ps : List ℕ) : Type 0 where
   pub all : before ++ (place ∷ after) ≡ ps
   pub named : Named t l before
   pub judges : judged (raw_at l place) ≡ true
-  pub none : (stop_of t l (name_of (raw_at l place))).place ≡ 0 → 4096 ≤ (stop_of t l (name_of (raw_at l place))).slot
+  pub none : told t l (name_of (raw_at l place)) ≡ 0 → stop_of t l (name_of (raw_at l place)) ≡ None

@@ -1,18 +1,22 @@
 -- Where a run ends. Assumes nothing.
 use mathlib.Core.Path.{◌≡◌, refl, sym, ap, ap₂, ◌∙◌}
 use mathlib.Core.Logic.{inl, inr}
+use mathlib.Core.Bool.{Bool, true, false}
 use mathlib.Core.List.{List, [], ◌∷◌, ◌++◌, map-append}
-use Prim.Native.Nat.{ℕ, suc, ◌+◌, ◌-◌, ◌≤◌, ◌<◌}
+use Prim.Native.Nat.{ℕ, zero, suc, ◌+◌, ◌-◌, ◌≤◌, ◌<◌}
 use native.Mathlib.Omega.{arith}
 use native.Mathlib.Numerals.{add-one}
+use lib.Dec.{eqb, ltb}
 use lib.ListN.{length, take, drop, get_or, length-drop, length-map}
 use lib.Seq.{slice_empty, drop-drop, take-suc, drop-append-le, length-take-le}
-use Rattle.lists.proofs.Member.{◌∈◌}
+use borrow.Author.Tests.{eqb-true, eqb-false, ltb-true, ltb-false}
+use Rattle.lists.proofs.Member.{◌∈◌, nil≢}
 use Rattle.found.specs.Found.{Found}
 use Rattle.found.specs.Places.{item_at, items_at}
 use Rattle.lists.specs.Each.{Each}
 use Rattle.lists.proofs.Each.{each_nil, each_append, each_of}
-use Rattle.sort.specs.Runs.{RunEnds}
+use Rattle.found.proofs.Reading.{items_more, items_end}
+use Rattle.sort.specs.Runs.{FirstFails, RunEnds}
 use Rattle.lists.specs.Runs.{runs}
 use Rattle.lists.proofs.Parts.{drop-take, take-map, drop-map}
 use Rattle.lists.proofs.Running.{runs-split}
@@ -57,3 +61,27 @@ module _ (f : Found → ℕ) (l places : List ℕ) (a : ℕ) where
         split = runs-split f (e - a - 1) xs G (rw (length-map (drop a places) (item_at l), length-drop a places) (omega arith)) (rw front s) (λ x t q. stop x t (sym back ∙ q))
             ∙ ap₂ (λ (r : List Found) (u : List Found). r ∷ runs f u) front back;
       }
+
+  -- a run ends where a test of its number first fails
+  pub run_of_test : (T : ℕ → Bool → Type 0) (e : ℕ) → a < length places → ((p : ℕ) (b : Bool) → T p b → b ≡ eqb (f (item_at l p)) G) → FirstFails T places a e → RunEnds f l places a e
+  run_of_test T e start tells first = ends_here e first.more first.upto (let m = first.more in same_to (e - a - 1) e (omega arith) (omega arith)) stop
+    where
+      same_to : (n k : ℕ) → a + suc n ≡ k → k ≤ e → Same k
+      same_to zero k q h = let z : a + 1 ≡ k = omega arith in rw z at (same_one start)
+      same_to (suc n) k q h =
+          let j = a + suc n in
+          let z : j + 1 ≡ k = omega arith in
+          let t = first.passed j (omega arith) (omega arith) in
+          let u = first.upto in
+          rw z at (same_more j (omega arith) (omega arith) (eqb-true _ _ (sym (tells (get_or places j 0) true t))) (same_to n j refl (omega arith)))
+
+      stop : (x : Found) (t : List Found) → items_at l (drop e places) ≡ x ∷ t → f x ≡ G → ⊥
+      stop x t q r = go (ltb e (length places)) refl
+        where
+          go : (b : Bool) → ltb e (length places) ≡ b → ⊥
+          go true h =
+              let m = ltb-true e (length places) h in
+              let n = items_more l places e m in
+              let head : x ≡ item_at l (get_or places e 0) = cc in
+              eqb-false _ _ (sym (tells (get_or places e 0) false (first.failed m))) (sym (ap f head) ∙ r)
+          go false h = nil≢ (sym q ∙ items_end l places e (ltb-false e (length places) h))

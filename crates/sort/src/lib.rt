@@ -6,5 +6,5 @@ mod ends;
 mod merging;
 
 pub use choice::Order;
-pub use ends::run_end;
+pub use ends::{end_of, run_end};
 pub use merging::sort;

@@ -1,4 +1,5 @@
 -- What the lists of the scan, and of stage 1 after it, are fit for. Assumes nothing.
+use Rattle.std.specs.Prelude.{Ok}
 use mathlib.Core.Path.{◌≡◌, refl, ap, ◌∙◌}
 use mathlib.Core.Bool.{Bool, true, false}
 use mathlib.Core.List.{List}
@@ -8,11 +9,9 @@ use lib.Dec.{ltb}
 use lib.ListN.{length, get_or}
 use borrow.Author.Tests.{le-leb, ltb-false}
 use Rattle.entry.specs.States.{one}
-use Rattle.flash.specs.declared.Ran.{Ran}
 use Rattle.flash.specs.Step.{run}
-use Rattle.flash.specs.Did.{Did}
+use Rattle.flash.specs.Did.{Did, Ran}
 use Rattle.flash.proofs.Frame.{length_run}
-use Rattle.flash.specs.declared.Ran.TheVariants.{Done}
 use Rattle.flash.proofs.Laws.{did_all}
 use Rattle.lists.specs.Lists.{greatest}
 use Rattle.lists.proofs.Member.{◌∈◌}
@@ -20,7 +19,7 @@ use Rattle.page.specs.declared.state.PageState.{PageState}
 use Rattle.page.specs.declared.state.PageState.TheVariants.{Blank, Corrupt, Active, Full, Freeing}
 use Rattle.table.specs.declared.Page.{Page}
 use Rattle.table.specs.declared.Table.{Table}
-use Rattle.table.specs.Table.{sectors_of, pages, frees, sequence, active, freeing, active_page, freeing_page, as_full, listed, freed, Sized, Holds}
+use Rattle.table.specs.Table.{sectors_of, pages, frees, sequence, active, freeing, active_page, freeing_page, as_full, listed, freed, Holds}
 use Rattle.table.specs.PagesPlaced.{PagesPlaced}
 use Rattle.table.proofs.Scanned.{pages_placed}
 use Rattle.order.specs.Order.{ordering, ordered}
@@ -37,7 +36,6 @@ held_placed l s h = rw (h.list, h.free) (pages_placed l s)
 
 -- what stage 1 leaves: the image m, and the table u
 pub record Ordered (l m : List ℕ) (u : Table) : Type 0 where
-  pub sized : Sized u
   pub list : listed u ≡ ordered (pages l)
   pub free : freed u ≡ frees l
   pub placed : PagesPlaced (sectors_of m) (listed u) (freed u)
@@ -46,7 +44,7 @@ pub record Ordered (l m : List ℕ) (u : Table) : Type 0 where
   pub whole : length l ≡ sectors_of l * 4096 → length m ≡ sectors_of m * 4096
 
 pub stage_1 : (l : List ℕ) {m : List ℕ} {t u : Table} {n k : ℕ} {r : Ran} → sectors_of l ≤ 16 → Holds t (pages l) (frees l)
-    → Did (ordering (listed t)) n l m r → r ≡ Done k → Holds u (ordered (listed t)) (freed t) → Ordered l m u
+    → Did (ordering (listed t)) n l m r → r ≡ Ok k → Holds u (ordered (listed t)) (freed t) → Ordered l m u
 stage_1 l {m} {t} {u} s h d e g =
     let left : m ≡ run (ordering (pages l)) l = rw h.list at (did_all (rw e at d)) in
     let size : length m ≡ length l = ap length left ∙ length_run (ordering (pages l)) l in
@@ -54,7 +52,6 @@ stage_1 l {m} {t} {u} s h d e g =
     let free : freed u ≡ frees l = g.free ∙ h.free in
     let sectors : sectors_of m ≡ sectors_of l = ap (λ (x : ℕ). x / 4096) size in
     record {
-      sized = g.sized;
       list = list;
       free = free;
       placed = rw (list, free, sectors) (ordered_placed (pages_placed l s));

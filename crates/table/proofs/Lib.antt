@@ -1,9 +1,9 @@
 pub mod Pages
 pub mod Scanning
 pub mod Listing
-pub mod Out
+pub mod Found
 pub mod Seeking
 pub mod Places
-pub mod Held
 pub mod Scanned
 pub mod Whole
+pub mod Greatest

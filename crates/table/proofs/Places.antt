@@ -7,7 +7,7 @@ use mathlib.Core.List.{List, [], ◌∷◌, ◌++◌, get_last?, drop_last}
 use Prim.Native.Nat.{ℕ, zero, suc, ◌+◌, ◌*◌, ◌≤◌, ◌<◌}
 use native.Mathlib.Omega.{arith}
 use lib.Dec.{eqb, ltb}
-use lib.ListN.{length, take, get_or, length-append}
+use lib.ListN.{length, get_or, length-append}
 use borrow.Author.Tests.{eq-eqb, ltb-true}
 use Rattle.entry.specs.States.{one}
 use Rattle.lists.specs.Lists.{sum_of, greatest, replace, out_with, take_out}
@@ -18,13 +18,14 @@ use Rattle.table.specs.declared.Page.{Page}
 use Rattle.table.specs.Table.{in_sector, sectors_of, sequence, as_full}
 use Rattle.table.specs.PagesPlaced.{times_in, PagesPlaced}
 
--- an element of the front of an array is a member of it
-pub in_front : {A : Type 0} (xs : List A) (k i : ℕ) (d : A) → k ≤ length xs → i < k → get_or xs i d ∈ take k xs
-in_front [] zero i d r h = absurd (omega arith)
-in_front [] (suc k) i d r h = absurd (omega arith)
-in_front (x ∷ xs) zero i d r h = absurd (omega arith)
-in_front (x ∷ xs) (suc k) zero d r h = inl refl
-in_front (x ∷ xs) (suc k) (suc i) d r h = inr (in_front xs k i d (omega arith) (omega arith))
+-- an element of a list that is lent is a member of it
+pub in_list : {A : Type 0} (xs ys : List A) → ys ≡ xs → (i : ℕ) (d : A) → i < length ys → get_or ys i d ∈ xs
+in_list xs ys same i d h = rw same (there xs i (omega (arith, ap length same)))
+  where
+    there : (zs : List _) (k : ℕ) → k < length zs → get_or zs k d ∈ zs
+    there [] k r = absurd (omega arith)
+    there (z ∷ zs) zero r = inl refl
+    there (z ∷ zs) (suc k) r = inr (there zs k (omega arith))
 
 -- one that is taken out leaves no more of the others
 module _ {A : Type 0} where

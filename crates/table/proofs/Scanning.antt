@@ -5,15 +5,14 @@ use mathlib.Core.List.{List, [], ◌∷◌, ◌++◌, append-nil}
 use Prim.Native.Nat.{ℕ, ◌+◌, ◌<◌}
 use native.Mathlib.Omega.{arith}
 use native.Mathlib.Numerals.{add-one}
-use lib.ListN.{get_or}
+use lib.ListN.{get_or, length}
 use Rattle.flash.specs.Step.{sector}
 use Rattle.page.specs.declared.seen.Seen.{Seen}
 use Rattle.page.specs.State.{state_of, is_free}
 use Rattle.page.specs.Record.{seen_of}
 use Rattle.page.proofs.Fields.{seen_state}
-use Rattle.records.specs.declared.scanned.Scanned.{Scanned}
-use Rattle.records.specs.Scanned.{blank_seen, scanned_of}
-use Rattle.records.proofs.Reading.{row_at}
+use Rattle.records.specs.Records.{each_to}
+use Rattle.records.proofs.Reading.{each_at, length-each}
 use Rattle.table.specs.Table.{sectors_of, page_at, pages_to, frees_to}
 
 module _ (l : List ℕ) (n : ℕ) where
@@ -34,9 +33,11 @@ module _ (l : List ℕ) (n : ℕ) where
   frees-used e = rw (add-one, e) (append-nil (frees_to l n))
 
 -- of what was seen of an image, each is its sector's and tells its state
-module _ (l : List ℕ) (scanned : Scanned) (e : scanned ≡ scanned_of l (sectors_of l)) (n : ℕ) (h : n < scanned.count) (d : Seen) where
-  pub seen_at : get_or scanned.seen n d ≡ seen_of (sector n l)
-  seen_at = ap (λ (r : Scanned). get_or r.seen n d) e ∙ row_at seen_of l blank_seen (sectors_of l) n d (omega (arith, ap (λ (r : Scanned). r.count) e))
+module _ (l : List ℕ) (xs : List Seen) (e : xs ≡ each_to seen_of l (sectors_of l)) (n : ℕ) (h : n < length xs) (d : Seen) where
+  pub seen_at : get_or xs n d ≡ seen_of (sector n l)
+  seen_at =
+      let long = length-each seen_of l (sectors_of l) in
+      ap (λ (ys : List Seen). get_or ys n d) e ∙ each_at seen_of l (sectors_of l) n d (omega (arith, ap length e))
 
-  pub state_at_lem : (get_or scanned.seen n d).state ≡ state_of (sector n l)
+  pub state_at_lem : (get_or xs n d).state ≡ state_of (sector n l)
   state_at_lem = ap (λ (r : Seen). r.state) seen_at ∙ seen_state (sector n l)

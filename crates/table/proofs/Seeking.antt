@@ -1,4 +1,5 @@
 -- Search in a page list, one page at a time: the first that passes, and the best from the end on. Assumes nothing.
+use Rattle.std.specs.Prelude.{None, Some}
 use mathlib.Core.Path.{◌≡◌, refl}
 use mathlib.Core.Logic.{inl, inr}
 use mathlib.Core.Bool.{Bool, true, false, cond}
@@ -7,23 +8,13 @@ use mathlib.Core.List.{List, [], ◌∷◌}
 use Prim.Native.Nat.{ℕ}
 use native.Mathlib.Omega.{arith}
 use lib.Dec.{eqb}
-use Rattle.lists.specs.Lists.{keep, first_of, better, best}
+use Rattle.lists.specs.Lists.{first_of, better, best}
 use Rattle.lists.proofs.Member.{◌∈◌, none≢some}
 use Rattle.page.specs.declared.state.PageState.{PageState}
 use Rattle.page.specs.declared.state.PageState.TheVariants.{Blank, Corrupt, Active, Full, Freeing}
 use Rattle.table.specs.declared.Page.{Page}
-use Rattle.table.specs.declared.Sought.TheVariants.{One, Nothing}
 use Rattle.table.specs.Table.{active, freeing, active_page, freeing_page}
-use Rattle.table.specs.Sought.{sought_of, better_of, better_among, code_of, in_state}
-
-module _ (p : Page → Bool) (x : Page) (xs : List Page) where
-  pub first_here : p x ≡ true → first_of p (x ∷ xs) ≡ some x
-  unfolding first_of
-  first_here e = rw e
-
-  pub first_on : p x ≡ false → first_of p (x ∷ xs) ≡ first_of p xs
-  unfolding first_of
-  first_on e = rw e
+use Rattle.table.specs.Sought.{sought_of, better_of, code_of, in_state}
 
 pub first_member : (p : Page → Bool) (xs : List Page) (y : Page) → first_of p xs ≡ some y → y ∈ xs
 unfolding first_of
@@ -55,16 +46,16 @@ pub freeing_is : (p : Page) → in_state Freeing p ≡ freeing_page p
 freeing_is p = (codes p.seen.state).1
 
 -- what an answer says of what was sought
-pub sought_found : (o : Option Page) (p : Page) → One p ≡ sought_of o → o ≡ some p
+pub sought_found : (o : Option Page) (p : Page) → Some p ≡ sought_of o → o ≡ some p
 sought_found none p e = absurd (let z : ◌≡◌ {A = ℕ} 0 1 = cc in omega arith)
 sought_found (some q) p e = cc
 
-pub sought_nothing : (o : Option Page) → Nothing ≡ sought_of o → o ≡ none
+pub sought_nothing : (o : Option Page) → None ≡ sought_of o → o ≡ none
 sought_nothing none e = refl
 sought_nothing (some q) e = absurd (let z : ◌≡◌ {A = ℕ} 0 1 = cc in omega arith)
 
 module _ (over : Page → Page → Bool) where
-  either : (b : Bool) (x y : Page) → cond b (One y) (One x) ≡ sought_of (some (cond b y x))
+  either : (b : Bool) (x y : Page) → cond b (Some y) (Some x) ≡ sought_of (some (cond b y x))
   either true x y = refl
   either false x y = refl
 
@@ -76,13 +67,3 @@ module _ (over : Page → Page → Bool) where
   pub best_more : (x : Page) (xs : List Page) → better_of over x (sought_of (best over xs)) ≡ sought_of (best over (x ∷ xs))
   unfolding best
   best_more x xs = better_is x (best over xs)
-
-  pub among_more : (passes : Page → Bool) (x : Page) (xs : List Page)
-      → better_among passes over x (sought_of (best over (keep passes xs))) ≡ sought_of (best over (keep passes (x ∷ xs)))
-  unfolding better_among keep
-  among_more passes x xs = go (passes x)
-    where
-      go : (b : Bool) → cond b (better_of over x (sought_of (best over (keep passes xs)))) (sought_of (best over (keep passes xs)))
-          ≡ sought_of (best over (cond b (x ∷ keep passes xs) (keep passes xs)))
-      go true = best_more x (keep passes xs)
-      go false = refl

@@ -1,24 +1,18 @@
 -- Bridge: a page that is sought in a list, as the code answers it, and a list's choice page by page from its end. Assumes nothing.
-use Rattle.std.specs.Prelude.{Bool, cond, ℕ, eqb}
-use Rattle.std.proofs.Math.Option.{Option, none, some}
+use Rattle.std.specs.Prelude.{Bool, cond, ℕ, eqb, Option, Some, None}
+use Rattle.std.proofs.Math.Option.{Option as Chosen, none, some}
 use Rattle.page.specs.declared.state.PageState.{PageState}
 use Rattle.page.specs.declared.state.PageState.TheVariants.{Blank, Corrupt, Active, Full, Freeing}
 use Rattle.table.specs.declared.Page.{Page}
-use Rattle.table.specs.declared.Sought.{Sought}
-use Rattle.table.specs.declared.Sought.TheVariants.{One, Nothing}
 
-abbrev pub sought_of : Option Page → Sought
-sought_of none = Nothing
-sought_of (some p) = One p
+abbrev pub sought_of : Chosen Page → Option Page
+sought_of none = None
+sought_of (some p) = Some p
 
 -- one page more, in front: `over y x` says that y, which stands later, goes before x
-abbrev pub better_of : (Page → Page → Bool) → Page → Sought → Sought
-better_of over x Nothing = One x
-better_of over x (One y) = cond (over y x) (One y) (One x)
-
--- the same among the pages that pass
-unfoldable pub better_among : (Page → Bool) → (Page → Page → Bool) → Page → Sought → Sought
-better_among passes over x best = cond (passes x) (better_of over x best) best
+abbrev pub better_of : (Page → Page → Bool) → Page → Option Page → Option Page
+better_of over x None = Some x
+better_of over x (Some y) = cond (over y x) (Some y) (Some x)
 
 -- a number for each state, which tells them apart
 abbrev pub code_of : PageState → ℕ

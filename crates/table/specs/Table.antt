@@ -1,6 +1,6 @@
 -- Rule. Document 01, Recovery: "Page list: sectors ascending. Free list the same; the last is taken first, and an erased sector joins at the end." Assumes
 -- nothing.
-use Rattle.std.specs.Prelude.{Bool, true, false, cond, ◌&&◌, List, [], ◌∷◌, ◌++◌, ℕ, zero, suc, ◌≤◌, ◌/◌, ◌%◌, eqb, leb, ◌≡◌, length, take}
+use Rattle.std.specs.Prelude.{Bool, true, false, cond, ◌&&◌, List, [], ◌∷◌, ◌++◌, ℕ, zero, suc, ◌/◌, ◌%◌, eqb, leb, ◌≡◌, length}
 use Rattle.flash.specs.Step.{sector}
 use Rattle.page.specs.declared.state.PageState.{PageState}
 use Rattle.page.specs.declared.state.PageState.TheVariants.{Blank, Corrupt, Active, Full, Freeing}
@@ -77,20 +77,12 @@ as_full p =
 
 -- the lists that a table holds
 abbrev pub listed : Table → List Page
-listed t = take t.count t.pages
+listed t = t.pages.items
 
 abbrev pub freed : Table → List ℕ
-freed t = take t.free_count t.free
-
--- "a table by value of at most 16 pages"
-pub record Sized (t : Table) : Type 0 where
-  pub list : t.count ≤ length t.pages
-  pub free : t.free_count ≤ length t.free
-  pub sixteen : length t.pages ≡ 16
-  pub sixteen_free : length t.free ≡ 16
+freed t = t.free.items
 
 -- it holds the page list ps and the free list fs
 pub record Holds (t : Table) (ps : List Page) (fs : List ℕ) : Type 0 where
-  pub sized : Sized t
   pub list : listed t ≡ ps
   pub free : freed t ≡ fs

@@ -1,52 +1,62 @@
-// Text into a lent slice. Each function answers where the next byte goes; what has no room is left out.
+// Text into a lent slice: what has no room is left out.
 #![tactic(auto)]
 
-ghost use Rattle.std.specs.Prelude.{[], ◌∷◌, ◌≤◌, length};
-ghost use Rattle.text.specs.Text.{Put};
-ghost use Rattle.text.specs.Text.{decimal as decimal_of};
-ghost use Rattle.text.specs.Text.{field as field_of};
+ghost use Rattle.std.specs.Prelude.{[], ◌∷◌, ◌≡◌, ◌≤◌, length};
 
-pub fn put_byte(out: &mut [u8], at: usize, b: u8) -> usize
-    requires { at ≤ length out.old }
-    ensures { Put out.old at (b ∷ []) out.new result }
-{
-    if at < out.len() {
-        out[at] = b;
-        return at + 1;
+// The lent bytes, and the place of the next one.
+#[derive(Drop)]
+pub struct Text<'a> {
+    pub out: &'a mut [u8],
+    pub at: usize,
+    ghost fits: { at ≤ length out.now },
+}
+
+impl<'a> Text<'a> {
+    ghost use Rattle.text.specs.Text.{decimal, field as field_of};
+    ghost use Rattle.text.specs.Grown.{Grown};
+
+    pub fn new(out: &'a mut [u8]) -> Text<'a>
+        ensures same_reference { result.out.ghost_name ≡ out.entry.ghost_name }
+        ensures unwritten { result.out.now ≡ out.old }
+        ensures start { result.at ≡ 0 }
+    {
+        Text { out, at: 0 }
     }
-    at
-}
 
-pub fn put_text(out: &mut [u8], at: usize, text: &[u8]) -> usize
-    requires { at ≤ length out.old }
-    ensures { Put out.old at text.now out.new result }
-{
-    let mut to = at;
-    let mut i: usize = 0;
-    while i < text.len() {
-        to = put_byte(out, to, text[i]);
-        i += 1;
+    pub fn push(&mut self, b: u8)
+        ensures { Grown self.old (b ∷ []) self.new }
+    {
+        if self.at < self.out.len() {
+            self.out[self.at] = b;
+            self.at += 1;
+        }
     }
-    to
-}
 
-// A number in decimal digits.
-pub fn put_number(out: &mut [u8], at: usize, n: u64) -> usize
-    requires { at ≤ length out.old }
-    ensures { Put out.old at (decimal_of n) out.new result }
-{
-    let mut digits = [0u8; 20];
-    let k = io::decimal(n, &mut digits);
-    put_text(out, at, &digits[..k])
-}
+    pub fn text(&mut self, text: &[u8])
+        ensures { Grown self.old text.now self.new }
+    {
+        for b in text {
+            self.push(*b);
+        }
+    }
 
-// A word, a number and what stands between and before them: spaces.
-pub fn put_field(out: &mut [u8], at: usize, name: &[u8], n: u64) -> usize
-    requires { at ≤ length out.old }
-    ensures { Put out.old at (field_of name.now n) out.new result }
-{
-    let space = put_byte(out, at, b' ');
-    let word = put_text(out, space, name);
-    let next = put_byte(out, word, b' ');
-    put_number(out, next, n)
+    // A number in decimal digits.
+    #[tactic(auto, using(crate::proofs::Digits::digits_are))]
+    pub fn number(&mut self, n: u64)
+        ensures { Grown self.old (decimal n) self.new }
+    {
+        let mut digits = [0u8; 20];
+        let k = io::decimal(n, &mut digits);
+        self.text(&digits[..k]);
+    }
+
+    // A word, a number and what stands between and before them: spaces.
+    pub fn field(&mut self, name: &[u8], n: u64)
+        ensures { Grown self.old (field_of name.now n) self.new }
+    {
+        self.push(b' ');
+        self.text(name);
+        self.push(b' ');
+        self.number(n);
+    }
 }

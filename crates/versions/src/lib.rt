@@ -3,4 +3,4 @@
 
 mod sound;
 
-pub use sound::{Newest, is_sound, newest_of};
+pub use sound::{is_sound, newest_of};

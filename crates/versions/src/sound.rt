@@ -9,13 +9,6 @@ ghost use Rattle.versions.specs.Search.{Gathered, newest_of, PlacedAt, index_of_
 use found::Rank;
 use layout::{ENTRY_BYTES, VERSION_CHUNKS};
 
-// The place of the newest index so far.
-#[derive(Clone, Copy)]
-pub enum Newest {
-    At(usize),
-    Nothing,
-}
-
 // Whether an index of one of two versions stands there.
 fn is_index_of(image: &[u8], place: usize, v: Rank, w: Rank) -> bool
     requires { Placed image.now place }
@@ -25,40 +18,31 @@ fn is_index_of(image: &[u8], place: usize, v: Rank, w: Rank) -> bool
         return false;
     }
     let version = found::version_at(image, place);
-    if found::rank_same(version, v) {
-        return true;
-    }
-    found::rank_same(version, w)
+    version == v || version == w
 }
 
 // The newer of an index and the newest of those behind it: among equals the later.
-fn newer_of(image: &[u8], place: usize, v: Rank, w: Rank, best: Newest) -> Newest
+fn newer_of(image: &[u8], place: usize, v: Rank, w: Rank, best: Option<usize>) -> Option<usize>
     requires { Placed image.now place × PlacedAt image.now best }
     ensures { (newest_of image.now result ≡ newest_with (rank_number v) (rank_number w) (item_at image.now place) (newest_of image.now best)) × PlacedAt image.now result }
 {
     if !is_index_of(image, place, v, w) {
         return best;
     }
-    let Newest::At(later) = best else {
-        return Newest::At(place);
-    };
-    if found::is_newer(image, later, place) {
-        Newest::At(later)
-    } else {
-        Newest::At(place)
+    match best {
+        Some(later) if found::is_newer(image, later, place) => best,
+        _ => Some(place),
     }
 }
 
 // The newest index of two versions; of one, where they are the same.
-pub fn newest_of(image: &[u8], places: &[u16], v: Rank, w: Rank) -> Newest
+pub fn newest_of(image: &[u8], places: &[u16], v: Rank, w: Rank) -> Option<usize>
     requires { Each (Placed image.now) places.now }
     ensures { (newest_of image.now result ≡ newest_index (rank_number v) (rank_number w) (items_at image.now places.now)) × PlacedAt image.now result }
 {
-    let mut best = Newest::Nothing;
-    let mut i = places.len();
-    while 0 < i {
-        i -= 1;
-        best = newer_of(image, found::place_at(places, i), v, w, best);
+    let mut best = None;
+    for &place in places.iter().rev() {
+        best = newer_of(image, usize::from(place), v, w, best);
     }
     best
 }
@@ -69,14 +53,12 @@ pub fn is_sound(image: &[u8], places: &[u16], v: Rank, index: usize) -> bool
     requires { Gathered image.now places.now × Placed image.now index }
     ensures { result ≡ sound (rank_number v) (items_at image.now places.now) (item_at image.now index) }
 {
-    let count = word::size(entry::index_count(image, index * ENTRY_BYTES));
+    let count = usize::from(entry::index_count(image, index * ENTRY_BYTES));
     let mut seen = [false; VERSION_CHUNKS];
     let mut chunks: usize = 0;
     let mut size: u64 = 0;
-    let mut i = places.len();
-    while 0 < i {
-        i -= 1;
-        let place = found::place_at(places, i);
+    for &place in places.iter().rev() {
+        let place = usize::from(place);
         if !found::is_chunk_of(image, place, v) {
             continue;
         }
@@ -89,11 +71,7 @@ pub fn is_sound(image: &[u8], places: &[u16], v: Rank, index: usize) -> bool
         }
         seen[n] = true;
         chunks += 1;
-        size += entry::chunk_size(image, place * ENTRY_BYTES) as u64;
+        size += u64::from(entry::chunk_size(image, place * ENTRY_BYTES));
     }
-    if chunks == count {
-        entry::index_size(image, index * ENTRY_BYTES) as u64 == size
-    } else {
-        false
-    }
+    chunks == count && u64::from(entry::index_size(image, index * ENTRY_BYTES)) == size
 }

@@ -13,15 +13,6 @@ pub le_four : (s : List ℕ) (at : ℕ) → le s at 4 ≡ get_or s at 0 + 256 * 
 unfolding le
 le_four s at = rw add-zero (omega arith)
 
--- eight bytes are four and four
-pub le-eight : (s : List ℕ) (at : ℕ) → le s at 8 ≡ le s at 4 + 0x1_0000_0000 * le s (at + 4) 4
-unfolding le
-le-eight s at = simp add_assoc (omega arith)
-
-pub be-eight : (s : List ℕ) (at : ℕ) → be s at 8 ≡ be s (at + 4) 4 + 0x1_0000_0000 * be s at 4
-unfolding be
-be-eight s at = simp add_assoc (omega arith)
-
 -- the q-th byte
 pub byte : (f : ℕ → ℕ) → ((j : ℕ) → f j < 256) → (n q : ℕ) → q < n → number f n / 256 ^ q % 256 ≡ f q
 byte f small zero q h = absurd (not-suc-le-zero h)

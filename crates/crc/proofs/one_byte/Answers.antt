@@ -7,12 +7,13 @@ use lib.Bits.{bit_xor}
 use Rattle.crc.specs.Crc.{crc_bits}
 use Rattle.crc.proofs.Places.{at_place}
 use Rattle.crc.proofs.Slicing.{eight}
+use Rattle.crc.specs.declared.TheConstants.{TABLE}
 use Rattle.crc.proofs.one_byte.Goals as goal
 
 pub returns : goal.returns
 returns c =
     let x = c.args.x in
-    let read : (j n i : ℕ) → n < 64 → i ≡ n + 64 * j → i < 324 → get_or c.args.t.now i 0 ≡ crc_bits (32 - 6 * j) n = at_place c.args.t.now c.requires in
+    let read : (j n i : ℕ) → n < 64 → i ≡ n + 64 * j → i < 324 → get_or TABLE i 0 ≡ crc_bits (32 - 6 * j) n = at_place in
     ap₂ bit_xor (read 4 (x % 64) (x % 64 + 256) (omega arith) (omega arith) (omega arith))
     (ap (bit_xor (x / 64 / 4)) (read 5 (x / 64 % 4) (x / 64 % 4 + 320) (omega arith) (omega arith) (omega arith)))
     ∙ sym (eight x)

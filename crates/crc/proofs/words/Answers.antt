@@ -10,14 +10,12 @@ use Rattle.crc.proofs.words.Goals as goal
 pub loop-k-preserved : goal.loop-k-preserved
 loop-k-preserved c =
     let s = c.args.s.now in
-    let small : (j : ℕ) → get_or s j 0 < 256 = λ j. omega (arith, c.type_inv.s j) in (
-      omega arith,
-      rw (c.four_bytes-r.ensures, c.le32.ensures) (sym (piece-turn s c.args.at c.args.n small c.requires.1 c.loop-k.k c.loop-k.r (omega arith)) ∙ c.loop-k.invariant.1),
-    )
+    let small : (j : ℕ) → get_or s j 0 < 256 = λ j. omega (arith, c.type_inv.s j) in
+    rw (c.four_bytes-r.ensures, c.le32.ensures) (sym (piece-turn s c.args.n small c.requires c.loop-k.k c.loop-k.r c.loop-k-test.true) ∙ c.loop-k.invariant)
 
 pub returns : goal.returns
 unfolding crc_from
 returns c =
     let s = c.args.s.now in
     let small : (j : ℕ) → get_or s j 0 < 256 = λ j. omega (arith, c.type_inv.s j) in
-    ap (crc_from c.loop-k.r) (sym (piece_end s c.args.at c.args.n small c.requires.1 c.loop-k.k c.loop-k-test.false)) ∙ c.loop-k.invariant.1
+    ap (crc_from c.loop-k.r) (sym (piece_end s c.args.n small c.requires c.loop-k.k c.loop-k-test.false)) ∙ c.loop-k.invariant

@@ -1,12 +1,8 @@
-use Rattle.word.specs.Number.{part}
 use Rattle.crc.specs.Crc.{crc_from}
 use mathlib.Core.Path.{◌≡◌}
-use Prim.Native.Nat.{◌*◌, ◌-◌, ◌≤◌}
-use lib.ListN.{drop}
+use Prim.Native.Nat.{◌*◌}
+use lib.ListN.{take, drop}
 use Rattle.crc.proofs.words.Given as goal
 
 abbrev pub invariant-loop-k : goal.invariant-loop-k
-invariant-loop-k l = (l.k ≤ l.n) × (crc_from l.r (drop (4 * l.k) (part l.s l.at (4 * l.n))) ≡ crc_from l.from (part l.s l.at (4 * l.n)))
-
-abbrev pub decreases-loop-k : goal.decreases-loop-k
-decreases-loop-k l = l.n - l.k
+invariant-loop-k l = crc_from l.r (drop (4 * l.k) (take (4 * l.n) l.s)) ≡ crc_from l.from (take (4 * l.n) l.s)

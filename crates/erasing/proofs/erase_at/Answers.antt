@@ -1,4 +1,4 @@
--- `found::erase_at` meets its contract: the item's entries are erased, which changes entry states alone. Assumes nothing.
+-- `erasing::erase_at` meets its contract: the item's entries are erased, which changes entry states alone. Assumes nothing.
 use Prim.Native.Nat.{◌-◌, ◌/◌, ◌%◌}
 use native.Mathlib.Omega.{arith}
 use Rattle.found.specs.Places.{item_at}

@@ -1,40 +1,21 @@
--- `finishing::count_freeing` meets its contract: what is counted so far is the number of them from here on. Assumes nothing.
-use Rattle.entry.specs.States.{one}
-use Rattle.lists.specs.Lists.{sum_of}
-use Rattle.table.specs.Table.{listed}
-use Rattle.table.proofs.Listing.{element, listed_end}
+-- `finishing::count_freeing` meets its contract: as many as are kept of the list. Assumes nothing.
+use Rattle.std.proofs.Common.{◌≡◌, ◌∙◌, ap, rules, arith, length}
+use borrow.Author.Tests.{tests}
+use Rattle.std.proofs.lemmas.Iterator.{YieldsList-from_slice}
+use Rattle.std.proofs.lemmas.Iterator.Consumers.{count_from_yields_List, YieldsList-from_filter, YieldsList-at}
+use Rattle.page.specs.declared.state.PageState.TheVariants.{Freeing}
+use Rattle.table.specs.Sought.{in_state}
+use Rattle.table.proofs.Found.{filtered}
 use Rattle.finishing.specs.Finishing.{freeings}
 use Rattle.finishing.proofs.Rounds.{counted}
-use mathlib.Core.Path.{◌≡◌, sym, ap, ◌∙◌}
-use Prim.Native.Nat.{ℕ, ◌+◌, ◌-◌}
-use native.Mathlib.Omega.{arith}
-use lib.ListN.{drop}
+use Rattle.finishing.proofs.Lengths.{freeings_most}
 use Rattle.finishing.proofs.count_freeing.Goals as goal
-use Rattle.finishing.proofs.count_freeing.Goals.{After-is_freeing}
-
-pub loop-i-init : goal.loop-i-init
-unfolding freeings sum_of
-loop-i-init c =
-    let t = c.args.table in
-    (omega arith, sym (ap freeings (listed_end t.pages t.count c.requires.list t.count (omega arith))), omega (arith, c.requires.list, c.requires.sixteen))
-
--- one page more, as the call judged it
-one_more : (c : After-is_freeing)
-    →
-    let t = c.args.table in
-    freeings (drop (c.loop-i.i - 1) (listed t)) ≡ one c.is_freeing.result + freeings (drop c.loop-i.i (listed t))
-one_more c =
-    let t = c.args.table in
-    let e : c.loop-i.i - 1 + 1 ≡ c.loop-i.i = omega arith in
-    rw e at (counted _ (element t.pages t.count c.requires.list (c.loop-i.i - 1) _ (omega arith)) c.is_freeing.ensures)
-
-pub loop-i-preserved-then-is_freeing : goal.loop-i-preserved-then-is_freeing
-loop-i-preserved-then-is_freeing c = let k = rw c.if-is_freeing.true at (one_more (goal.at.loop-i-preserved-then-is_freeing c).After-is_freeing) in (omega arith, omega arith, omega arith)
-
-pub loop-i-preserved : goal.loop-i-preserved
-loop-i-preserved c = let k = rw c.if-is_freeing.false at (one_more (goal.at.loop-i-preserved c).After-is_freeing) in (omega arith, omega arith, omega arith)
 
 pub returns : goal.returns
 returns c =
-    let e : c.loop-i.i ≡ 0 = omega arith in
-    (c.loop-i.invariant.1 ∙ ap (λ (k : ℕ). freeings (drop k (listed c.args.table))) e, omega arith)
+    let ps = c.args.table.now.pages.items in
+    let road = YieldsList-at c.filter.ensures.source (YieldsList-from_slice ps (c.iter.ensures.rest ∙ c.deref.ensures.0)) in
+    let is : c.count.result ≡ freeings ps =
+    count_from_yields_List _ c.count.result c.count.ensures.ran (YieldsList-from_filter _ (in_state Freeing) road c.filter.ensures.closure (λ x b q k. search (rules, tests)))
+    ∙ ap length (filtered (in_state Freeing) ps) ∙ counted ps in
+    (is, omega (arith, is, freeings_most ps, c.deref.ensures.1, ap length c.deref.ensures.0))

@@ -1,9 +1,9 @@
 use mathlib.Core.Path.{◌≡◌}
 use mathlib.Core.Bool.{Bool, true, ◌||◌}
 use mathlib.Core.List.{List}
-use Prim.Native.Nat.{ℕ, ◌-◌, ◌≤◌}
+use Prim.Native.Nat.{ℕ}
 use lib.Dec.{eqb}
-use lib.ListN.{length, get_or}
+use lib.ListN.{get_or}
 use Rattle.lists.specs.Lists.{all_to}
 use Rattle.slots.specs.Slots.{raw_at}
 use Rattle.fits.specs.Fits.{part_fits}
@@ -13,8 +13,5 @@ use Rattle.fits.proofs.all_fit.Given as goal
 abbrev pub slot_fits : List ℕ → List ℕ → ℕ → Bool
 slot_fits t l i = eqb (get_or t i 0) 0 || part_fits t l (raw_at l (get_or t i 0))
 
-abbrev pub invariant-loop-i : goal.invariant-loop-i
-invariant-loop-i l = (l.i ≤ length l.slots) × (all_to (slot_fits l.slots l.image) l.i ≡ true)
-
-abbrev pub decreases-loop-i : goal.decreases-loop-i
-decreases-loop-i l = length l.slots - l.i
+abbrev pub invariant-loop-slot : goal.invariant-loop-slot
+invariant-loop-slot l = all_to (slot_fits l.slots l.image) l.slot-index ≡ true

@@ -1,6 +1,6 @@
 use mathlib.Core.Path.{◌≡◌}
 use mathlib.Core.Bool.{true}
-use Prim.Native.Nat.{◌*◌, ◌-◌, ◌≤◌}
+use Prim.Native.Nat.{◌*◌, ◌≤◌}
 use Rattle.entry.specs.Fields.{chunk_size}
 use Rattle.lists.specs.Lists.{all_to, sum_to}
 use Rattle.found.specs.Ranks.{rank_number}
@@ -11,8 +11,5 @@ use Rattle.fits.proofs.index_fits.Given as goal
 
 abbrev pub invariant-loop-n : goal.invariant-loop-n
 invariant-loop-n l =
-    (l.n ≤ l.count) × (l.size ≤ 65536 * l.n) × (all_to (has_chunk l.slots l.image (rank_number l.v)) l.n ≡ true)
+    (l.size ≤ 65536 * l.n) × (all_to (has_chunk l.slots l.image (rank_number l.v)) l.n ≡ true)
     × (sum_to (λ j. chunk_size (told_raw l.slots l.image (chunk_name (rank_number l.v) j))) l.n ≡ l.size)
-
-abbrev pub decreases-loop-n : goal.decreases-loop-n
-decreases-loop-n l = l.count - l.n

@@ -1,85 +1,46 @@
--- `duplicates::make_last_marks` meets its contract: the marks of the pages from here on are left, judged by the image as the call began. Assumes nothing.
-use mathlib.Core.Path.{sym, ap, ◌∙◌}
-use mathlib.Core.List.{List}
-use native.Mathlib.Omega.{arith}
-use borrow.Author.Tests.{eq-eqb, ne_eqb}
-use Rattle.flash.proofs.Laws.{goes_start, goes_on, goes-stop, goes_end, goes_same}
-use Rattle.table.specs.declared.Page.{Page}
-use Rattle.table.proofs.Listing.{element, listed_end}
-use Rattle.table.proofs.Places.{in_front, page-fits}
-use Rattle.duplicates.specs.Duplicates.{last_marks}
-use Rattle.duplicates.proofs.Marking.{marked_none, marked_more, mark_more, mark_other, mark_roomy, marks_end}
+-- `fourth::make_last_marks` meets its contract: the marks of the pages from here on are left, judged by the image as the call began. Assumes nothing.
+use Rattle.std.proofs.Common.{◌∙◌, sym}
+use Rattle.flash.proofs.Laws.{goes_start, goes_on, goes_out, goes_end, goes_same}
+use Rattle.table.specs.Table.{listed}
+use Rattle.table.proofs.Places.{in_list, page-fits}
+use Rattle.duplicates.proofs.Marking.{marked_none, marked_more}
+use Rattle.fourth.proofs.Marks.{marked_here, passed_here, marked_all}
 use Rattle.fourth.proofs.make_last_marks.Goals as goal
+use Rattle.fourth.proofs.make_last_marks.Goals.{then-is_used_up+in_ok-left, else-is_used_up}
 
-pub loop-i-init : goal.loop-i-init
-loop-i-init c = (omega arith, marked_none _, goes_start _ _ _)
+pub loop-p-init : goal.loop-p-init
+loop-p-init c = (marked_none _, goes_start _ _ _)
 
-pub loop-i-preserved-then-not-is_active : goal.loop-i-preserved-then-not-is_active
-loop-i-preserved-then-not-is_active c =
-    let more = c.loop-i-test.true in
-    let l = c.loop-i in
-    let t = c.args.table in (
-      omega (arith, more),
-      l.invariant.1,
-      goes_same l.invariant.2 (
-          ap (λ (ps : List Page). last_marks ps c.args.image.now) (element t.pages t.count c.requires.0.list l.i _ (omega (arith, more)))
-          ∙ mark_other _ _ _ (sym c.is_active.ensures ∙ c.if-not-is_active.true)
-          ),
-    )
+pub is_used_up-requires : goal.is_used_up-requires
+is_used_up-requires c =
+    let l = c.loop-p in
+    let ps = listed c.args.table.now in
+    page-fits c.args.image.now l.image c.requires l.invariant.0.size _ (in_list ps _ c.deref-p-items.ensures.0 l.p-index _ c.loop-p-test.true)
 
-pub empty_in-requires : goal.empty_in-requires
-empty_in-requires c =
-    let l = c.loop-i in
-    let t = c.args.table in
-    page-fits c.args.image.now l.image c.requires.1 l.invariant.1.size _ (in_front t.pages t.count l.i _ c.requires.0.list (omega (arith, c.loop-i-test.true)))
+pub mark_full-requires : goal.mark_full-requires
+mark_full-requires c =
+    let l = c.loop-p in
+    let ps = listed c.args.table.now in
+    rw c.from.ensures (page-fits c.args.image.now l.image c.requires l.invariant.0.size _ (in_list ps _ c.deref-p-items.ensures.0 l.p-index _ c.loop-p-test.true))
 
-pub loop-i-preserved-then-empty_in-ne0 : goal.loop-i-preserved-then-empty_in-ne0
-loop-i-preserved-then-empty_in-ne0 c =
-    let more = c.loop-i-test.true in
-    let l = c.loop-i in
-    let t = c.args.table in (
-      omega (arith, more),
-      l.invariant.1,
-      goes_same l.invariant.2 (
-          ap (λ (ps : List Page). last_marks ps c.args.image.now) (element t.pages t.count c.requires.0.list l.i _ (omega (arith, more)))
-          ∙ mark_roomy _ _ _ (sym c.is_active.ensures ∙ c.if-not-is_active.false) (ne_eqb _ _ (λ q. c.if-empty_in-ne0.true (c.empty_in.ensures ∙ l.invariant.1.room _ ∙ q)))
-          ),
-    )
+pub returns-in_err-left : goal.returns-in_err-left
+returns-in_err-left c =
+    let l = c.loop-p in
+    let here = marked_here c.deref-p-items.ensures.0 l.invariant.0 l.p-index _ c.loop-p-test.true c.from.result c.from.ensures (sym c.is_used_up.ensures ∙ c.if-is_used_up.true) in
+    goes_out _ l.invariant.1 here c.mark_full.ensures c.in_err-left.was c.from_residual.ensures.0
 
-pub mark_full-r-requires : goal.mark_full-r-requires
-mark_full-r-requires c =
-    let l = c.loop-i in
-    let t = c.args.table in
-    page-fits c.args.image.now l.image c.requires.1 l.invariant.1.size _ (in_front t.pages t.count l.i _ c.requires.0.list (omega (arith, c.loop-i-test.true)))
-
-pub returns-in_default : goal.returns-in_default
-returns-in_default c =
-    let more = c.loop-i-test.true in
-    let l = c.loop-i in
-    let t = c.args.table in
-    goes-stop _ l.invariant.2 (
-    ap (λ (ps : List Page). last_marks ps c.args.image.now) (element t.pages t.count c.requires.0.list l.i _ (omega (arith, more)))
-    ∙ mark_more _ _ _ (sym c.is_active.ensures ∙ c.if-not-is_active.false) (eq-eqb _ _ (sym (l.invariant.1.room _) ∙ sym c.empty_in.ensures ∙ c.if-empty_in-ne0.false))
-    ) c.mark_full-r.ensures c.in_default.is
-
-pub loop-i-preserved : goal.loop-i-preserved
-loop-i-preserved c =
-    let more = c.loop-i-test.true in
-    let l = c.loop-i in
-    let t = c.args.table in (
-      omega (arith, more),
-      marked_more _ c.mark_full-r.ensures l.invariant.1,
-      goes_on l.invariant.2 (
-          ap (λ (ps : List Page). last_marks ps c.args.image.now) (element t.pages t.count c.requires.0.list l.i _ (omega (arith, more)))
-          ∙ mark_more _ _ _ (sym c.is_active.ensures ∙ c.if-not-is_active.false) (eq-eqb _ _ (sym (l.invariant.1.room _) ∙ sym c.empty_in.ensures ∙ c.if-empty_in-ne0.false))
-          ) c.mark_full-r.ensures c.in-Done.is,
-    )
-
-pub shape_of-image : goal.shape_of-image
-shape_of-image c = c.loop-i.invariant.1.size
+pub loop-p-preserved : goal.loop-p-preserved
+loop-p-preserved c =
+    let l = c.loop-p in
+    let lent = c.deref-p-items.ensures.0 in
+    elim c.if-is_used_up.branch [
+      | then-is_used_up+in_ok-left w ↦
+          let here = marked_here lent l.invariant.0 l.p-index _ c.loop-p-test.true w.from.result w.from.ensures (sym c.is_used_up.ensures ∙ w.if-is_used_up.true) in
+          rw (w.image-is, w.left-is) (marked_more _ w.mark_full.ensures l.invariant.0, goes_on l.invariant.1 here w.mark_full.ensures w.in_ok-left.was)
+      | else-is_used_up w ↦
+          let here = passed_here lent l.invariant.0 l.p-index _ c.loop-p-test.true (sym c.is_used_up.ensures ∙ w.if-is_used_up.false) in
+          rw (w.image-is, w.left-is) (l.invariant.0, goes_same l.invariant.1 here)
+    ]
 
 pub returns : goal.returns
-returns c =
-    let l = c.loop-i in
-    let t = c.args.table in
-    goes_end l.invariant.2 (ap (λ (ps : List Page). last_marks ps c.args.image.now) (listed_end t.pages t.count c.requires.0.list l.i c.loop-i-test.false) ∙ marks_end _)
+returns c = goes_end c.loop-p.invariant.1 (marked_all c.args.image.now (listed c.args.table.now) _ c.deref-p-items.ensures.0 c.loop-p.p-index c.loop-p-test.false)

@@ -20,7 +20,7 @@ returns-in_default c =
 
 pub is_sound-requires : goal.is_sound-requires
 is_sound-requires c =
-    (c.requires, rw c.in-At.is at c.newest_of.ensures.1)
+    (c.requires, rw c.in-Some.is at c.newest_of.ensures.1)
 
 pub returns-then-is_sound : goal.returns-then-is_sound
 unfolding judge judge_with
@@ -28,12 +28,12 @@ returns-then-is_sound c =
     let l = c.args.image.now in
     let v = rank_number c.args.v in
     let found = c.newest_of.ensures in
-    let q = sym (newest-counts v (items_at l c.args.places.now)) ∙ sym found.0 ∙ ap (newest_of l) c.in-At.is in
+    let q = sym (newest-counts v (items_at l c.args.places.now)) ∙ sym found.0 ∙ ap (newest_of l) c.in-Some.is in
     rw (q, sym c.is_sound.ensures ∙ c.if-is_sound.true) (did_none _ _, alike_refl _)
 
 pub drop_version-requires : goal.drop_version-requires
 drop_version-requires c =
-    (c.requires.each, rw c.in-At.is at c.newest_of.ensures.1)
+    (c.requires.each, rw c.in-Some.is at c.newest_of.ensures.1)
 
 pub returns : goal.returns
 unfolding judge judge_with
@@ -41,5 +41,5 @@ returns c =
     let l = c.args.image.now in
     let v = rank_number c.args.v in
     let found = c.newest_of.ensures in
-    let q = sym (newest-counts v (items_at l c.args.places.now)) ∙ sym found.0 ∙ ap (newest_of l) c.in-At.is in
+    let q = sym (newest-counts v (items_at l c.args.places.now)) ∙ sym found.0 ∙ ap (newest_of l) c.in-Some.is in
     rw (q, sym c.is_sound.ensures ∙ c.if-is_sound.false) c.drop_version.ensures

@@ -1,9 +1,10 @@
--- `listing::put_counts` meets its contract: a field behind a field. Assumes nothing.
-use Rattle.text.proofs.Putting.{put_both}
+-- `lines::put_counts` meets its contract: a field behind a field. Assumes nothing.
+use Rattle.text.proofs.Putting.{grown_both}
 use Rattle.lines.specs.Lines.{counts}
 use Rattle.lines.proofs.put_counts.Goals as goal
 
 pub returns : goal.returns
 unfolding counts
 returns c =
-    put_both c.put_field-written.ensures (put_both c.put_field-erased.ensures (put_both c.put_field-empty.ensures c.put_field.ensures))
+    rw (c.from.ensures, c.from-2.ensures, c.from-3.ensures, c.from-4.ensures) at
+    (grown_both c.field.ensures (grown_both c.field-2.ensures (grown_both c.field-3.ensures c.field-4.ensures)))

@@ -1,11 +1,9 @@
--- `listing::put_head` meets its contract: each part goes behind the last. Assumes nothing.
-use mathlib.Core.Path.{ap}
-use Rattle.text.proofs.Putting.{put_both, put_as}
-use Rattle.text.specs.Text.{word, field}
+-- `lines::put_head` meets its contract: each part goes behind the last. Assumes nothing.
+use Rattle.text.proofs.Putting.{grown_both}
 use Rattle.lines.specs.Lines.{head}
 use Rattle.lines.proofs.put_head.Goals as goal
 
 pub returns : goal.returns
 unfolding head
 returns c =
-    put_both c.put_text-word.ensures (put_both c.put_number-number.ensures (put_both (put_as (ap (field (word "result")) c.number.ensures) c.put_field-result.ensures) (put_both (put_as (ap (field (word "steps")) c.steps.ensures) c.put_field-steps.ensures) c.put_byte.ensures)))
+    rw (c.from.ensures, c.number-2.ensures, c.steps.ensures) at (grown_both c.text.ensures (grown_both c.number.ensures (grown_both c.field.ensures (grown_both c.field-2.ensures c.push.ensures))))

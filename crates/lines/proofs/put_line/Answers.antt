@@ -1,15 +1,20 @@
--- `listing::put_line` meets its contract: a free sector's line ends behind its state. Assumes nothing.
+-- `lines::put_line` meets its contract: of a page, its record goes behind the state. Assumes nothing.
 use mathlib.Core.Path.{sym, ◌∙◌}
-use Rattle.text.proofs.Putting.{put_both, put_as}
-use Rattle.lines.proofs.Line.{line_free, line-page}
+use mathlib.Core.Bool.{cond}
+use mathlib.Core.List.{[]}
+use Rattle.page.specs.State.{is_free}
+use Rattle.text.specs.Grown.{Grown}
+use Rattle.text.proofs.Putting.{grown-nothing, grown_both}
+use Rattle.lines.specs.Lines.{page_text, line}
 use Rattle.lines.proofs.put_line.Goals as goal
-
-pub returns-then-is_free : goal.returns-then-is_free
-returns-then-is_free c =
-    let a = c.args in
-    put_as (line_free a.n a.r (sym c.is_free.ensures ∙ c.if-is_free.true)) (put_both c.put_number-number.ensures (put_both c.put_byte-space.ensures (put_both c.put_state-word.ensures c.put_byte.ensures)))
+use Rattle.lines.proofs.put_line.Goals.{then-not-is_free, else-not-is_free}
 
 pub returns : goal.returns
+unfolding line
 returns c =
-    let a = c.args in
-    put_as (line-page a.n a.r (sym c.is_free.ensures ∙ c.if-is_free.false)) (put_both c.put_number-number.ensures (put_both c.put_byte-space.ensures (put_both c.put_state-word.ensures (put_both c.put_page-end.ensures c.put_byte-2.ensures))))
+    let told : Grown c.text.new.self (cond (is_free c.args.r.state) [] (page_text c.args.r)) c.if-not-is_free.text =
+    elim c.if-not-is_free.branch [
+      | then-not-is_free w ↦ rw (sym c.is_free.ensures ∙ w.if-not-is_free.true, w.text-is) w.put_page.ensures
+      | else-not-is_free w ↦ rw (sym c.is_free.ensures ∙ w.if-not-is_free.false, w.text-is) (grown-nothing c.text.new.self)
+    ] in
+    rw c.state_name.ensures at (grown_both c.number.ensures (grown_both c.push.ensures (grown_both c.text.ensures (grown_both told c.push-2.ensures))))

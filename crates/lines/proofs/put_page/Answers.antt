@@ -1,9 +1,9 @@
--- `listing::put_page` meets its contract: the sequence, the counts behind it, and then the unread entries. Assumes nothing.
-use Rattle.text.proofs.Putting.{put_both}
+-- `lines::put_page` meets its contract: the sequence, the counts behind it, and then the unread entries. Assumes nothing.
+use Rattle.text.proofs.Putting.{grown_both}
 use Rattle.lines.specs.Lines.{page_text}
 use Rattle.lines.proofs.put_page.Goals as goal
 
 pub returns : goal.returns
 unfolding page_text
 returns c =
-    put_both c.put_byte-space.ensures (put_both c.put_number-sequence.ensures (put_both c.put_counts-counts.ensures c.put_field.ensures))
+    rw (c.from.ensures, c.from-2.ensures) at (grown_both c.push.ensures (grown_both c.number.ensures (grown_both c.put_counts.ensures c.field.ensures)))

@@ -1,29 +1,24 @@
 -- `marking::mark_erased` meets its contract: the steps that are left, made on the image as it is, are the whole. Assumes nothing.
-use mathlib.Core.Path.{◌≡◌, refl}
+use mathlib.Core.Path.{◌≡◌}
 use Prim.Native.Nat.{◌+◌, ◌-◌}
 use native.Mathlib.Omega.{arith}
-use Rattle.flash.proofs.Laws.{goes_start, goes_on, goes-stop, goes_end}
+use Rattle.flash.proofs.Laws.{goes_start, goes_on, goes_out, goes_end}
 use Rattle.marking.proofs.Turns.{unmarking_more, unmarking_end}
-use borrow.Author.Rules.{rules}
 use Rattle.marking.proofs.mark_erased.Goals as goal
 
-pub loop-end-init : goal.loop-end-init
-loop-end-init c =
+pub loop-e-init : goal.loop-e-init
+loop-e-init c =
     let a = c.args in
     let q : a.j + a.n - a.j ≡ a.n = omega arith in
-    (omega arith, omega arith, refl, rw q (goes_start _ _ _))
+    rw q (goes_start _ _ _)
 
-pub returns-in_default : goal.returns-in_default
-returns-in_default c =
-    goes-stop _ c.loop-end.invariant.3 (unmarking_more _ _ _ (omega arith)) c.state_step-r.ensures c.in_default.is
+pub returns-in_err-left : goal.returns-in_err-left
+returns-in_err-left c =
+    goes_out _ c.loop-e.invariant (unmarking_more _ _ _ (omega arith)) c.state_step.ensures c.in_err-left.was c.from_residual.ensures.0
 
-pub loop-end-preserved : goal.loop-end-preserved
-loop-end-preserved c = (
-  omega arith,
-  omega arith,
-  search rules,
-  goes_on c.loop-end.invariant.3 (unmarking_more _ _ _ (omega arith)) c.state_step-r.ensures c.in-Done.is,
-)
+pub loop-e-preserved : goal.loop-e-preserved
+loop-e-preserved c =
+    goes_on c.loop-e.invariant (unmarking_more _ _ _ (omega arith)) c.state_step.ensures c.in_ok-left.was
 
 pub returns : goal.returns
-returns c = goes_end c.loop-end.invariant.3 (unmarking_end _ _ _ (omega arith))
+returns c = goes_end c.loop-e.invariant (unmarking_end _ _ _ (omega arith))

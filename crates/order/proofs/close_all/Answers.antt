@@ -1,39 +1,26 @@
--- `order::close_all` meets its contract: the pages passed are closed. Assumes nothing.
-use mathlib.Core.List.{map}
-use lib.ListN.{length-set}
+use Rattle.std.proofs.Common.{◌∙◌, ◌++◌, ap, refl, length, get_or, set, map, rules, take_all, drop_of_length-le, append-nil}
+use mathlib.Core.Path.{ap₂}
+use Rattle.std.proofs.lemmas.List.Edits.{map_over_more}
+use Rattle.arrayvec.proofs.ArrayVecLemmas.{items-with_items}
 use Rattle.order.specs.Turns.{closed_page}
-use Rattle.order.proofs.Turns.{closed_more}
-use mathlib.Core.Path.{◌≡◌, refl, sym, ap, ◌∙◌}
-use Prim.Native.Nat.{ℕ, ◌<◌}
-use native.Mathlib.Omega.{arith}
-use lib.ListN.{length, take}
 use Rattle.order.proofs.close_all.Goals as goal
 
-pub loop-i-init : goal.loop-i-init
-loop-i-init c = (omega arith, refl, refl, refl, refl, refl)
-
-pub loop-i-preserved : goal.loop-i-preserved
-loop-i-preserved c =
-    let t = c.args.table in
-    let v = c.loop-i in
-    let room : v.i < length v.out.pages = omega arith in (
-      omega arith,
-      length-set v.out.pages v.i _ ∙ v.invariant.1,
-      v.invariant.2,
-      v.invariant.3,
-      v.invariant.4,
-      rw c.close.ensures (closed_more v.out.pages t.pages v.i _ room (omega arith) v.invariant.5),
-    )
+pub loop-p-preserved : goal.loop-p-preserved
+loop-p-preserved c =
+    let ys = c.loop-p.p-items in
+    let i = c.loop-p.p-index in
+    ap (set ys i) c.close.ensures
+    ∙ map_over_more closed_page c.deref_mut-p-items.result.now ys i (get_or ys i _) c.loop-p-test.true c.loop-p.invariant (search rules)
 
 pub returns : goal.returns
 returns c =
-    let t = c.args.table in
-    let v = c.loop-i in
-    let e : v.i ≡ t.count = omega arith in (
-      record {
-        sized = record { list = omega arith; free = omega (arith, ap length v.invariant.3); sixteen = v.invariant.1 ∙ c.requires.sixteen; sixteen_free = ap length v.invariant.3 ∙ c.requires.sixteen_free };
-        list = ap (λ (k : ℕ). take k v.out.pages) (v.invariant.2 ∙ sym e) ∙ v.invariant.5 ∙ ap (λ (k : ℕ). map closed_page (take k t.pages)) e;
-        free = rw (v.invariant.3, v.invariant.4);
-      },
-      v.invariant.2,
-    )
+    let xs = c.deref_mut-p-items.result.now in
+    let ys = c.loop-p.p-items in
+    let value = c.deref_mut-p-items.ensures.value in
+    let whole = take_all c.loop-p.p-index xs c.loop-p-test.false in
+    let none = drop_of_length-le xs c.loop-p-test.false in
+    record {
+      list = items-with_items c.args.table.now.pages ys (c.loop-p.auto.p-items ∙ ap length value)
+          ∙ c.loop-p.invariant ∙ ap₂ (λ a b. map closed_page a ++ b) whole none ∙ append-nil _ ∙ ap (map closed_page) value;
+      free = refl;
+    }

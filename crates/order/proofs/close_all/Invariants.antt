@@ -1,12 +1,6 @@
-use mathlib.Core.List.{map}
+use Rattle.std.proofs.Common.{◌≡◌, ◌++◌, take, drop, map}
 use Rattle.order.specs.Turns.{closed_page}
-use mathlib.Core.Path.{◌≡◌}
-use Prim.Native.Nat.{◌-◌, ◌≤◌}
-use lib.ListN.{length, take}
 use Rattle.order.proofs.close_all.Given as goal
 
-abbrev pub invariant-loop-i : goal.invariant-loop-i
-invariant-loop-i l = (l.i ≤ l.table.count) × (length l.out.pages ≡ length l.table.pages) × (l.out.count ≡ l.table.count) × (l.out.free ≡ l.table.free) × (l.out.free_count ≡ l.table.free_count) × (take l.i l.out.pages ≡ map closed_page (take l.i l.table.pages))
-
-abbrev pub decreases-loop-i : goal.decreases-loop-i
-decreases-loop-i l = l.table.count - l.i
+abbrev pub invariant-loop-p : goal.invariant-loop-p
+invariant-loop-p l = l.p-items ≡ map closed_page (take l.p-index l.initial.p-items) ++ drop l.p-index l.initial.p-items

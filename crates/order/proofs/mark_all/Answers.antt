@@ -1,56 +1,43 @@
 -- `order::mark_all` meets its contract: the marks of the pages from here on, made on the image as it is, are the whole. Assumes nothing.
-use Rattle.flash.proofs.Laws.{goes_start, goes_on, goes-stop, goes_end, goes_same}
+use Rattle.std.proofs.Common.{◌∙◌, sym, ap, refl}
+use Rattle.flash.proofs.Laws.{goes_start, goes_on, goes_out, goes_end, goes_same}
+use Rattle.table.specs.Table.{listed}
 use Rattle.table.proofs.Listing.{element, listed_end}
-use Rattle.table.proofs.Places.{in_front, page-fits}
+use Rattle.table.proofs.Places.{in_list, page-fits}
 use Rattle.lists.specs.Lists.{keep}
 use Rattle.order.specs.Turns.{full_marks}
 use Rattle.order.proofs.Turns.{marks-active, marks-other}
-use mathlib.Core.Path.{refl, sym, ap, ◌∙◌}
-use native.Mathlib.Omega.{arith}
-use borrow.Author.Rules.{rules}
 use Rattle.order.proofs.mark_all.Goals as goal
+use Rattle.order.proofs.mark_all.Goals.{then-is_active+in_ok-left, else-is_active}
 
-pub loop-i-init : goal.loop-i-init
-loop-i-init c = (omega arith, refl, goes_start _ _ _)
+pub loop-p-init : goal.loop-p-init
+loop-p-init c = (refl, goes_start _ _ _)
 
-pub loop-i-preserved-then-not-is_active : goal.loop-i-preserved-then-not-is_active
-loop-i-preserved-then-not-is_active c =
-    let t = c.args.table in
-    let i = c.loop-i.i in (
-      omega arith,
-      c.loop-i.invariant.1,
-      goes_same c.loop-i.invariant.2 (
-          ap full_marks (element t.pages t.count c.requires.0.list i _ (omega arith))
-          ∙ marks-other _ _ (sym c.is_active.ensures ∙ c.if-not-is_active.true)
-          ),
-    )
+pub mark_full-requires : goal.mark_full-requires
+mark_full-requires c =
+    let ps = listed c.args.table.now in
+    rw c.from.ensures (page-fits c.args.image.now c.loop-p.image c.requires c.loop-p.invariant.0 _ (in_list ps _ c.deref-p-items.ensures.0 c.loop-p.p-index _ c.loop-p-test.true))
 
-pub mark_full-r-requires : goal.mark_full-r-requires
-mark_full-r-requires c =
-    let t = c.args.table in
-    page-fits c.args.image.now c.loop-i.image c.requires.1 c.loop-i.invariant.1 _ (in_front t.pages t.count c.loop-i.i _ c.requires.0.list (omega arith))
+pub returns-in_err-left : goal.returns-in_err-left
+returns-in_err-left c =
+    let here = element (listed c.args.table.now) _ c.deref-p-items.ensures.0 c.loop-p.p-index _ c.loop-p-test.true in
+    goes_out _ c.loop-p.invariant.1 (ap full_marks here ∙ marks-active _ _ (sym c.is_active.ensures ∙ c.if-is_active.true))
+    (rw c.from.ensures at c.mark_full.ensures) c.in_err-left.was c.from_residual.ensures.0
 
-pub returns-in_default : goal.returns-in_default
-returns-in_default c =
-    let t = c.args.table in
-    goes-stop _ c.loop-i.invariant.2 (
-    ap full_marks (element t.pages t.count c.requires.0.list c.loop-i.i _ (omega arith))
-    ∙ marks-active _ _ (sym c.is_active.ensures ∙ c.if-not-is_active.false)
-    ) c.mark_full-r.ensures c.in_default.is
-
-pub loop-i-preserved : goal.loop-i-preserved
-loop-i-preserved c =
-    let t = c.args.table in (
-      omega arith,
-      search rules,
-      goes_on c.loop-i.invariant.2 (
-          ap full_marks (element t.pages t.count c.requires.0.list c.loop-i.i _ (omega arith))
-          ∙ marks-active _ _ (sym c.is_active.ensures ∙ c.if-not-is_active.false)
-          ) c.mark_full-r.ensures c.in-Done.is,
-    )
+pub loop-p-preserved : goal.loop-p-preserved
+loop-p-preserved c =
+    let here = ap full_marks (element (listed c.args.table.now) _ c.deref-p-items.ensures.0 c.loop-p.p-index _ c.loop-p-test.true) in
+    elim c.if-is_active.branch [
+      | then-is_active+in_ok-left w ↦ rw (w.image-is, w.left-is) (
+        w.mark_full.auto.image ∙ c.loop-p.invariant.0,
+        goes_on c.loop-p.invariant.1 (here ∙ marks-active _ _ (sym c.is_active.ensures ∙ w.if-is_active.true)) (rw w.from.ensures at w.mark_full.ensures) w.in_ok-left.was,
+      )
+      | else-is_active w ↦ rw (w.image-is, w.left-is) (
+        c.loop-p.invariant.0,
+        goes_same c.loop-p.invariant.1 (here ∙ marks-other _ _ (sym c.is_active.ensures ∙ w.if-is_active.false)),
+      )
+    ]
 
 pub returns : goal.returns
 unfolding full_marks keep
-returns c =
-    let t = c.args.table in
-    goes_end c.loop-i.invariant.2 (ap full_marks (listed_end t.pages t.count c.requires.0.list c.loop-i.i c.loop-i-test.false))
+returns c = goes_end c.loop-p.invariant.1 (ap full_marks (listed_end (listed c.args.table.now) _ c.deref-p-items.ensures.0 c.loop-p.p-index c.loop-p-test.false))

@@ -4,10 +4,10 @@ use Rattle.flash.proofs.Laws.{did_none}
 use Rattle.order.specs.Turns.{kept_mark}
 use Rattle.order.proofs.mark_kept.Goals as goal
 
-pub returns-then-empty-eq0 : goal.returns-then-empty-eq0
+pub returns-then-p-ne0 : goal.returns-then-p-ne0
 unfolding kept_mark
-returns-then-empty-eq0 c = rw (eq-eqb _ _ c.if-empty-eq0.true) c.mark_full.ensures
+returns-then-p-ne0 c = rw (ne_eqb _ _ c.if-p-ne0.true) (did_none _ _)
 
 pub returns : goal.returns
 unfolding kept_mark
-returns c = rw (ne_eqb _ _ c.if-empty-eq0.false) (did_none _ _)
+returns c = rw (eq-eqb _ _ c.if-p-ne0.false) (rw c.from.ensures at c.mark_full.ensures)

@@ -1,11 +1,10 @@
 -- `quick::is_calm` meets its contract: what was filled and tested makes the items calm, and calm items pass but where one is crowded out. Assumes nothing.
-use mathlib.Core.Path.{refl, sym, ap, ◌∙◌}
+use mathlib.Core.Path.{sym, ap, ◌∙◌}
 use Prim.Native.Nat.{ℕ, ◌<◌}
 use mathlib.Core.List.{List, map}
 use native.Mathlib.Omega.{arith}
 use lib.ListN.{get_or}
 use Rattle.lists.proofs.Member.{true≢false}
-use Rattle.records.proofs.Noting.{none_noted}
 use Rattle.table.specs.Table.{listed}
 use Rattle.found.specs.Found.{found}
 use Rattle.found.specs.Places.{Lies, place_of}
@@ -26,29 +25,20 @@ calm-places : (l : List ℕ) (pages : List Page) → Each (Lies l) pages → Cal
 calm-places l pages lies C =
     calm_same (tot_at l (places l pages)) (λ (f : List ℕ → ℕ). tot f (found pages l)) (λ f. sym (tot_at_lem l (places l pages) f) ∙ ap (tot f) (items_found l pages lies)) C
 
--- nothing is noted once the notes are cleared
-pub fill_all-requires : goal.fill_all-requires
-fill_all-requires c =
-    let empty = c.clear.ensures in
-    (c.requires.0, c.requires.1, c.requires.2, omega arith, none_noted c.args.image.now (record { room = omega arith; none = empty }))
-
-pub all_fit-requires : goal.all_fit-requires
-all_fit-requires c = (c.fill_all.ensures.0 c.if-fill_all.true).0
-
 pub returns-then-fill_all : goal.returns-then-fill_all
 returns-then-fill_all c =
     let image = c.args.image.now in
-    let pages = listed c.args.table in
+    let pages = listed c.args.table.now in
     let small : (j : ℕ) → get_or image j 0 < 256 = λ j. omega (arith, c.type_inv.image j) in
     let named = (c.fill_all.ensures.0 c.if-fill_all.true).1 in (
-      λ e. rw (items_found image pages c.requires.2) at (calm-items _ image (places image pages) small named (sym c.all_fit.ensures ∙ e)),
-      λ e C. absurd (true≢false (passes _ image (places image pages) (small_items image small) named (calm-places image pages c.requires.2 C)) (sym c.all_fit.ensures ∙ e)),
+      λ e. rw (items_found image pages c.requires.0) at (calm-items _ image (places image pages) small named (sym c.all_fit.ensures ∙ e)),
+      λ e C. absurd (true≢false (passes _ image (places image pages) (small_items image small) named (calm-places image pages c.requires.0 C)) (sym c.all_fit.ensures ∙ e)),
       c.fill_all.ensures.2,
     )
 
 pub returns-else-fill_all : goal.returns-else-fill_all
 returns-else-fill_all c =
     let image = c.args.image.now in
-    let pages = listed c.args.table in
+    let pages = listed c.args.table.now in
     let small : (j : ℕ) → get_or image j 0 < 256 = λ j. omega (arith, c.type_inv.image j) in
-    (λ e. absurd (true≢false e refl), λ e C. crowded _ image (places image pages) (small_items image small) (calm-places image pages c.requires.2 C) (c.fill_all.ensures.1 c.if-fill_all.false), c.fill_all.ensures.2)
+    (λ e. absurd (true≢false e c.if-fill_all.false), λ e C. crowded _ image (places image pages) (small_items image small) (calm-places image pages c.requires.0 C) (c.fill_all.ensures.1 c.if-fill_all.false), c.fill_all.ensures.2)

@@ -17,7 +17,7 @@ use Rattle.records.proofs.unread_in.Goals.{Else-is_free, Then-noted-ne0}
 pub returns-then-is_free : goal.returns-then-is_free
 unfolding unread_of
 returns-then-is_free c =
-    let free : is_free (state_of (sector c.args.n c.args.image.now)) ≡ true = ap is_free (sym c.requires.3) ∙ sym c.is_free.ensures ∙ c.if-is_free.true in
+    let free : is_free (state_of (sector c.args.n c.args.image.now)) ≡ true = ap is_free (sym c.requires.2) ∙ sym c.is_free.ensures ∙ c.if-is_free.true in
     rw free
 
 -- the sector is not free
@@ -25,7 +25,7 @@ used : (c : Else-is_free) →
     let t = sector c.args.n c.args.image.now in unread_of t ≡ unread_from t 126 0
 unfolding unread_of
 used c =
-    let free : is_free (state_of (sector c.args.n c.args.image.now)) ≡ false = ap is_free (sym c.requires.3) ∙ sym c.is_free.ensures ∙ c.if-is_free.false in
+    let free : is_free (state_of (sector c.args.n c.args.image.now)) ≡ false = ap is_free (sym c.requires.2) ∙ sym c.is_free.ensures ∙ c.if-is_free.false in
     rw free
 
 -- a note stands
@@ -33,7 +33,7 @@ noted : (c : Then-noted-ne0) →
     let t = sector c.args.n c.args.image.now in
     (get_or c.args.notes.now c.args.n 0 ≡ unread_from t 126 0 + 1) × (unread_from t 126 0 ≤ 126)
 noted c =
-    (c.requires.4.right c.args.n (omega (arith, c.if-noted-ne0.true)), unread_most _)
+    (c.requires.3.right c.args.n (omega (arith, c.if-noted-ne0.true)), unread_most _)
 
 pub overflow_sub-result : goal.overflow_sub-result
 overflow_sub-result c = let h = noted c in search rules
@@ -46,7 +46,7 @@ returns-then-noted-ne0 c = let h = noted c in omega (arith, used (goal.at.return
 
 pub unread_of-requires : goal.unread_of-requires
 unread_of-requires c =
-    (c.requires.0, simp (length-take, length-drop) (omega (arith, c.requires.1)))
+    (simp (length-take, length-drop) (omega (arith, c.requires.0)))
 
 pub returns : goal.returns
 returns c =

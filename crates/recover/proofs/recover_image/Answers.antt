@@ -1,12 +1,14 @@
 -- `recover::recover_image` meets its contract: each refusal in its order, and what the stages made. Assumes nothing.
+use Rattle.std.specs.Prelude.{Ok}
 use mathlib.Core.Path.{◌≡◌, sym, ap, ◌∙◌}
 use mathlib.Core.Bool.{true, false}
 use Prim.Native.Nat.{◌≤◌}
-use Rattle.answer.specs.declared.Went.TheVariants.{Ended}
 use Rattle.stages.specs.Stages.{too_high}
 use Rattle.table.specs.Table.{sectors_of, whole_sectors, pages, frees, Holds}
 use Rattle.table.proofs.Whole.{whole_is}
-use Rattle.records.specs.declared.scanned.Scanned.{Scanned}
+use lib.ListN.{length}
+use Rattle.page.specs.Record.{seen_of}
+use Rattle.records.proofs.Reading.{length-each}
 use Rattle.records.specs.Scanned.{scanned_of}
 use Rattle.records.specs.Records.{rows_of}
 use Rattle.recover.proofs.Promised.{refused-sectors, refused-records, refused-sequences, stopped_short, ended-rows, seen_idle, none_walked, made_size}
@@ -24,21 +26,13 @@ returns-then-lent-sectors c =
 pub see_all-scanned-requires : goal.see_all-scanned-requires
 see_all-scanned-requires c =
     let w = whole_is c.args.image.now (sym c.is_whole.ensures ∙ c.if-not-is_whole.false) in
-    (c.table-t.ensures, w.0, w.1)
+    (w.0, w.1)
 
 -- what is known once the scan was listed: the image is whole, and the lists are the image's
 scan_is : (c : After-list_seen-table) →
     (whole_sectors c.args.image.now ≡ true) × (sectors_of c.args.image.now ≤ c.args.lent) × Holds c.list_seen-table.result (pages c.args.image.now) (frees c.args.image.now)
 scan_is c =
     ((sym c.is_whole.ensures ∙ c.if-not-is_whole.false), c.if-lent-sectors.false, c.list_seen-table.ensures c.args.image.now c.see_all-scanned.ensures)
-
-pub list_seen-table-requires : goal.list_seen-table-requires
-list_seen-table-requires c =
-    let w = whole_is c.args.image.now (sym c.is_whole.ensures ∙ c.if-not-is_whole.false) in
-    rw c.see_all-scanned.ensures w.1
-
-pub is_too_high-requires : goal.is_too_high-requires
-is_too_high-requires c = (scan_is c).2.sized
 
 pub returns-then-is_too_high : goal.returns-then-is_too_high
 returns-then-is_too_high c =
@@ -59,7 +53,7 @@ pub make_stages-went-requires : goal.make_stages-went-requires
 make_stages-went-requires c =
     let s = scan_is (goal.at.make_stages-went-requires c).After-list_seen-table in
     let w = whole_is c.args.image.now s.0 in
-    (c.table-t.ensures, s.2, w.0, w.1, low (goal.at.make_stages-went-requires c).Else-is_too_high, none_walked)
+    (s.2, w.0, w.1, low (goal.at.make_stages-went-requires c).Else-is_too_high, none_walked)
 
 pub returns-in_default : goal.returns-in_default
 returns-in_default c =
@@ -70,24 +64,26 @@ pub see_again-last-requires : goal.see_again-last-requires
 see_again-last-requires c =
     let w = whole_is c.args.image.now (scan_is (goal.at.see_again-last-requires c).After-list_seen-table).0 in
     let made = c.make_stages-went.ensures.0 in
-    let count = ap (λ (x : Scanned). x.count) c.see_all-scanned.ensures in
-    (c.table-t.ensures, rw count (made_size made ∙ w.0), rw count w.1, λ e. c.see_all-scanned.ensures ∙ seen_idle made (c.in-Ended.is ∙ ap Ended e) (sectors_of c.args.image.now) ∙ ap (scanned_of _) (sym count))
+    let count = ap (λ x. length x.items) c.see_all-scanned.ensures ∙ length-each seen_of c.args.image.now (sectors_of c.args.image.now) in
+    (rw count (made_size made ∙ w.0), λ e. c.see_all-scanned.ensures ∙ seen_idle made (c.in-Ok.is ∙ ap Ok e) (sectors_of c.args.image.now) ∙ ap (scanned_of _) (sym count))
 
 -- as many sectors as the image has were seen
 as_many : (c : After-see_again-last) →
-    (c.see_again-last.result.count ≡ c.see_all-scanned.result.count) × (c.see_all-scanned.result.count ≡ sectors_of c.args.image.now)
+    (length c.see_again-last.result.items ≡ length c.see_all-scanned.result.items) × (length c.see_all-scanned.result.items ≡ sectors_of c.args.image.now)
 as_many c =
-    (ap (λ (x : Scanned). x.count) c.see_again-last.ensures, ap (λ (x : Scanned). x.count) c.see_all-scanned.ensures)
+    let seen = length c.see_all-scanned.result.items in
+    let l = c.args.image.now in
+    (ap (λ x. length x.items) c.see_again-last.ensures ∙ length-each seen_of _ seen, ap (λ x. length x.items) c.see_all-scanned.ensures ∙ length-each seen_of l (sectors_of l))
 
 pub make_rows-rows-requires : goal.make_rows-rows-requires
 make_rows-rows-requires c =
     let w = whole_is c.args.image.now (scan_is (goal.at.make_rows-rows-requires c).After-list_seen-table).0 in
     let made = c.make_stages-went.ensures in
     let n = as_many (goal.at.make_rows-rows-requires c).After-see_again-last in
-    (c.table-t.ensures, rw (n.0 ∙ n.1) (made_size made.0 ∙ w.0), rw (n.0 ∙ n.1) w.1, c.see_again-last.ensures ∙ ap (scanned_of _) (sym n.0), made.1 _ c.in-Ended.is)
+    (rw (n.0 ∙ n.1) (made_size made.0 ∙ w.0), c.see_again-last.ensures ∙ ap (scanned_of _) (sym n.0), made.1 _ c.in-Ok.is)
 
 pub returns : goal.returns
 returns c =
     let s = scan_is (goal.at.returns c).After-list_seen-table in
     let n = as_many (goal.at.returns c).After-see_again-last in
-    ended-rows c.args.image.now c.args.lent c.args.allowance s.0 s.1 (low (goal.at.returns c).Else-is_too_high) c.make_stages-went.ensures.0 c.in-Ended.is c.told-answer.ensures (c.make_rows-rows.ensures ∙ ap (rows_of _) (n.0 ∙ n.1))
+    ended-rows c.args.image.now c.args.lent c.args.allowance s.0 s.1 (low (goal.at.returns c).Else-is_too_high) c.make_stages-went.ensures.0 c.in-Ok.is c.told-answer.ensures (c.make_rows-rows.ensures ∙ ap (rows_of _) (n.0 ∙ n.1))

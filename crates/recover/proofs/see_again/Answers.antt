@@ -2,4 +2,4 @@
 use Rattle.recover.proofs.see_again.Goals as goal
 
 pub returns-then-left-allowance : goal.returns-then-left-allowance
-returns-then-left-allowance c = c.requires.3 c.if-left-allowance.true
+returns-then-left-allowance c = c.requires.1 c.if-left-allowance.true

@@ -1,60 +1,40 @@
 -- `relocate::move_page` meets its contract: three lists in sequence, and the first leaves the source, so that its items are those at entry.
 -- Assumes nothing.
-use mathlib.Core.Path.{◌≡◌, refl, sym, ap}
-use mathlib.Core.List.{List, [], ◌∷◌, ◌++◌}
-use Prim.Native.Nat.{ℕ, ◌*◌}
+use mathlib.Core.Path.{refl}
+use mathlib.Core.List.{[], ◌∷◌, ◌++◌}
+use Prim.Native.Nat.{◌*◌}
 use Rattle.page.specs.Walk.{walk}
 use Rattle.flash.specs.Step.{sector, erase}
-use Rattle.flash.specs.Did.{Did, Goes}
-use Rattle.flash.proofs.Laws.{goes_start, goes_on, goes-stop, goes_last, goes_same}
+use Rattle.flash.specs.Did.{Goes}
+use Rattle.flash.proofs.Laws.{goes_start, goes_on, goes_out, goes_last}
 use Rattle.flash.proofs.Frame.{did-sector}
-use Rattle.item.specs.Initialise.{header, initialising}
 use Rattle.item.proofs.Safe.{initialising_in}
 use Rattle.relocate.specs.Move.{copies, moving}
 use Rattle.relocate.proofs.move_page.Goals as goal
-use Rattle.relocate.proofs.move_page.Goals.{After-initialise-r1, In-Done}
+use Rattle.relocate.proofs.move_page.Goals.{In_ok-started}
 
--- the target is initialised with the header of sequence q
-made : (c : After-initialise-r1) →
-    let a = c.args in
-    Did (initialising a.target (header a.q) a.image.now) a.allowed a.image.now c.initialise-r1.new.image c.initialise-r1.result
-made c = rw c.header_of-h.ensures at c.initialise-r1.ensures
+pub returns-in_err-started : goal.returns-in_err-started
+unfolding moving
+returns-in_err-started c =
+    goes_out _ (goes_start _ _ _) refl (rw c.header_of-h.ensures at c.initialise.ensures) c.in_err-started.was c.from_residual.ensures.0
 
--- the source is left
-kept : (c : After-initialise-r1) →
+-- what is left once the target is initialised: the source's items are as they were
+started : (c : In_ok-started) →
     let a = c.args in
-    sector a.s c.initialise-r1.new.image ≡ sector a.s a.image.now
-kept c =
-    did-sector c.args.s c.args.target c.requires.3 (initialising_in c.args.target _ _) (made c)
-
--- what is left once it stands
-started : (c : In-Done) →
-    let a = c.args in
-    let m = c.initialise-r1.new.image in
+    let m = c.initialise.new.image in
     Goes (moving a.s a.target a.q (walk (sector a.s a.image.now) 126 0) a.image.now) a.allowed a.image.now
-    (copies (a.target * 4096) 0 (walk (sector a.s m) 126 0) ++ (erase a.s ∷ [])) c.in-Done.left1 m
+    (copies (a.target * 4096) 0 (walk (sector a.s m) 126 0) ++ (erase a.s ∷ [])) c.in_ok-started.started m
 unfolding moving
 started c =
-    let made : let a = c.args in
-    Did (initialising a.target (header a.q) a.image.now) a.allowed a.image.now c.initialise-r1.new.image c.initialise-r1.result =
-    rw c.header_of-h.ensures at c.initialise-r1.ensures
-    in
-    let kept : let a = c.args in
-    sector a.s c.initialise-r1.new.image ≡ sector a.s a.image.now =
-    did-sector c.args.s c.args.target c.requires.3 (initialising_in c.args.target _ _) (made)
-    in
     let a = c.args in
-    goes_same (goes_on (goes_start _ _ _) refl (made) c.in-Done.is)
-    (ap (λ (x : List ℕ). copies (a.target * 4096) 0 (walk x 126 0) ++ (erase a.s ∷ [])) (sym (kept)))
+    let made = rw c.header_of-h.ensures at c.initialise.ensures in
+    let kept = did-sector a.s a.target c.requires.2 (initialising_in a.target _ _) made in
+    rw kept (goes_on (goes_start _ _ _) refl made c.in_ok-started.was)
 
-pub returns-in_default : goal.returns-in_default
-unfolding moving
-returns-in_default c = goes-stop _ (goes_start _ _ _) refl (made (goal.at.returns-in_default c).After-initialise-r1) c.in_default.is
-
-pub returns-in_default-r2 : goal.returns-in_default-r2
-returns-in_default-r2 c =
-    goes-stop _ (started (goal.at.returns-in_default-r2 c).In-Done) refl c.copy_items-r2.ensures c.in_default-r2.is
+pub returns-in_err-copied : goal.returns-in_err-copied
+returns-in_err-copied c =
+    goes_out _ (started (goal.at.returns-in_err-copied c).In_ok-started) refl c.copy_items.ensures c.in_err-copied.was c.from_residual-in_err-copied.ensures.0
 
 pub returns : goal.returns
 returns c =
-    goes_last (goes_on (started (goal.at.returns c).In-Done) refl c.copy_items-r2.ensures c.in-Done-r2.is) c.erase_sector.ensures
+    goes_last (goes_on (started (goal.at.returns c).In_ok-started) refl c.copy_items.ensures c.in_ok-copied.was) c.erase_sector.ensures

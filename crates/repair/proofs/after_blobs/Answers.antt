@@ -9,9 +9,9 @@ returns-then-is_calm c =
     let a = c.args in
     let tested = c.is_calm.ensures in
     let made = c.close_full.ensures in
-    (rw (calm_last (listed a.table) a.image.now (tested.0 c.if-is_calm.true)) made, marks-counted (listed a.table) tested.2 made)
+    (rw (calm_last (listed a.table.now) a.image.now (tested.0 c.if-is_calm.true)) made, marks-counted (listed a.table.now) tested.2 made)
 
 pub returns : goal.returns
 returns c =
     let made = c.repair_items.ensures in
-    (made, stage-counted (listed c.args.table) c.gather-n.ensures.2 c.requires.3 made)
+    (made, stage-counted (listed c.args.table.now) c.gather-n.ensures.2 c.requires.1 made)

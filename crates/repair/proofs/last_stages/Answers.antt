@@ -3,20 +3,24 @@
 use Rattle.table.specs.Table.{listed}
 use Rattle.repair.proofs.Repairing.{calm-stages, no-page-stages}
 use Rattle.repair.proofs.Counting.{none_counted, marks-counted}
+use Rattle.std.proofs.Common.{◌∙◌, sym, length}
+use borrow.Author.Tests.{eqb-true}
 use borrow.Author.Rules.{rules}
 use Rattle.repair.proofs.last_stages.Goals as goal
 
-pub returns-then-table-eq0 : goal.returns-then-table-eq0
-returns-then-table-eq0 c =
+pub returns-then-is_empty : goal.returns-then-is_empty
+returns-then-is_empty c =
     let a = c.args in
-    (no-page-stages a.table a.allowed a.image.now c.if-table-eq0.true, none_counted a.image.now _ c.requires.4)
+    let ps = listed a.table.now in
+    (no-page-stages ps a.allowed a.image.now (eqb-true (length ps) 0 (sym c.is_empty.ensures ∙ c.if-is_empty.true)), none_counted a.image.now _ c.requires.2)
 
 pub is_calm-requires : goal.is_calm-requires
-is_calm-requires c = let room = c.requires.4.room in search rules
+is_calm-requires c = let room = c.requires.2.room in search rules
 
 pub returns-then-is_calm : goal.returns-then-is_calm
 returns-then-is_calm c =
     let a = c.args in
+    let ps = listed a.table.now in
     let tested = c.is_calm.ensures in
     let made = c.close_full.ensures in
-    (rw (calm-stages (listed a.table) a.image.now (tested.0 c.if-is_calm.true)) made, marks-counted (listed a.table) tested.2 made)
+    (rw (calm-stages ps a.image.now (tested.0 c.if-is_calm.true)) made, marks-counted ps tested.2 made)

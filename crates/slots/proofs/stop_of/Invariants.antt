@@ -4,8 +4,5 @@ use Rattle.found.specs.Ranks.{rank_number}
 use Rattle.slots.specs.Slots.{stop, stop_of}
 use Rattle.slots.proofs.stop_of.Given as goal
 
-abbrev pub invariant-loop-n : goal.invariant-loop-n
-invariant-loop-n l = (l.i < 4096) × (stop l.slots l.image (rank_number l.name) (64 - l.n) l.i ≡ stop_of l.slots l.image (rank_number l.name))
-
-abbrev pub decreases-loop-n : goal.decreases-loop-n
-decreases-loop-n l = 64 - l.n
+abbrev pub invariant-loop : goal.invariant-loop
+invariant-loop l = (l.i < 4096) × (stop l.slots l.image (rank_number l.name) (64 - l.counter) l.i ≡ stop_of l.slots l.image (rank_number l.name))

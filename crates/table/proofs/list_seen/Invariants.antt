@@ -1,13 +1,12 @@
-use mathlib.Core.Path.{◌≡◌}
-use mathlib.Core.List.{List}
-use Prim.Native.Nat.{ℕ, ◌-◌, ◌≤◌}
-use lib.ListN.{length, take}
+use Rattle.std.proofs.Common.{◌≡◌, ◌≤◌, length, List, ℕ}
 use Rattle.records.specs.Scanned.{scanned_of}
 use Rattle.table.specs.Table.{sectors_of, pages_to, frees_to}
 use Rattle.table.proofs.list_seen.Given as goal
 
 abbrev pub invariant-loop-n : goal.invariant-loop-n
-invariant-loop-n live = (length live.list ≡ 16) × (length live.free ≡ 16) × (live.n ≤ live.sectors) × (live.count ≤ live.n) × (live.free_count ≤ live.n) × ((l : List ℕ) → live.scanned ≡ scanned_of l (sectors_of l) → (take live.count live.list ≡ pages_to l live.n) × (take live.free_count live.free ≡ frees_to l live.n))
-
-abbrev pub decreases-loop-n : goal.decreases-loop-n
-decreases-loop-n l = l.sectors - l.n
+invariant-loop-n s =
+    record {
+      pages_fit : length s.pages.items ≤ s.n;
+      free_fit : length s.free.items ≤ s.n;
+      lists : (l : List ℕ) → s.scanned ≡ scanned_of l (sectors_of l) → (s.pages.items ≡ pages_to l s.n) × (s.free.items ≡ frees_to l s.n);
+    }

@@ -15,18 +15,18 @@ use Rattle.page.proofs.Walking.{item_span}
 use Rattle.page.proofs.Unread.{unread-past, unread_item, unread_skip}
 use Rattle.page.proofs.Placing.{place_more, place_same, place_end}
 use Rattle.walking.proofs.places.Goals as goal
-use Rattle.walking.proofs.places.Goals.{After-one_written-unread, After-size-i}
+use Rattle.walking.proofs.places.Goals.{After-one_written-unread, After-from-i}
 
 -- what is known once the span is read: an item begins here, and its span, which is not 0, ends on the page
-fits_on : (c : After-size-i)
+fits_on : (c : After-from-i)
     → let s = c.args.s.now in
     let i = c.loop-i.i in
-    (is_item s i ≡ true) × (c.size-i.result ≡ span_of (entry_at s i)) × (1 ≤ c.size-i.result) × (i + c.size-i.result ≤ 126)
+    (is_item s i ≡ true) × (c.from-i.result ≡ span_of (entry_at s i)) × (1 ≤ c.from-i.result) × (i + c.from-i.result ≤ 126)
 fits_on c =
     let s = c.args.s.now in
     let i = c.loop-i.i in
     let e : is_item s i ≡ true = sym c.is_item.ensures ∙ c.if-not-is_item.false in
-    let n : c.size-i.result ≡ span_of (entry_at s i) = c.size-i.ensures.0 ∙ sym (part-byte s (64 + i * 32) 32 2 (lit< tt)) in
+    let n : c.from-i.result ≡ span_of (entry_at s i) = c.from-i.ensures ∙ sym (part-byte s (64 + i * 32) 32 2 (lit< tt)) in
     let f = item_span s i e in
     (e, n, omega arith, omega arith)
 

@@ -3,7 +3,7 @@ use mathlib.Core.Path.{◌≡◌, ap, ap₂, ◌∙◌}
 use Prim.Native.Nat.{ℕ, ◌-◌}
 use native.Mathlib.Omega.{arith}
 use lib.ListN.{take, drop}
-use Rattle.flash.proofs.Laws.{goes_start, goes_on, goes-stop, goes_end}
+use Rattle.flash.proofs.Laws.{goes_start, goes_on, goes_out, goes_end}
 use Rattle.found.specs.Places.{item_at, items_at, Placed}
 use Rattle.found.specs.Ranks.{rank_number}
 use Rattle.found.proofs.Alike.{alike_refl, alike_trans}
@@ -13,7 +13,7 @@ use Rattle.versions.specs.Versions.{older}
 use Rattle.blobs.specs.Runs.{older_steps}
 use Rattle.blobs.proofs.Passes.{gathered_still, gathered_run, items-run, pass_left, first_group, pass_end}
 use Rattle.blobs.proofs.stage.drop_all_older.Goals as goal
-use Rattle.blobs.proofs.stage.drop_all_older.Goals.{After-drop_older-r}
+use Rattle.blobs.proofs.stage.drop_all_older.Goals.{After-drop_older}
 
 pub loop-a-init : goal.loop-a-init
 loop-a-init c = (alike_refl _, goes_start _ _ _)
@@ -26,14 +26,14 @@ run_end-e-requires c =
 pub group_at-g-requires : goal.group_at-g-requires
 group_at-g-requires c =
     let l = c.loop-a in
-    rw c.place_at.ensures (each_at (Placed l.image) c.args.places.now 0 (gathered_still older_steps group_by c.args.image.now l.image c.args.places.now l.invariant.0 c.requires).each l.a c.loop-a-test.true)
+    rw c.from.ensures (each_at (Placed l.image) c.args.places.now 0 (gathered_still older_steps group_by c.args.image.now l.image c.args.places.now l.invariant.0 c.requires).each l.a c.loop-a-test.true)
 
-pub drop_older-r-requires : goal.drop_older-r-requires
-drop_older-r-requires c =
+pub drop_older-requires : goal.drop_older-requires
+drop_older-requires c =
     let l = c.loop-a in
     (gathered_run older_steps group_by c.args.image.now l.image c.args.places.now l.invariant.0 c.requires l.a c.run_end-e.result c.run_end-e.ensures, c.group_at-g.ensures.1)
 
-steps : (c : After-drop_older-r) →
+steps : (c : After-drop_older) →
     let l = c.loop-a in let a = c.args in let e = c.run_end-e.result in
     older (items_at l.image (take (e - l.a) (drop l.a a.places.now))) (rank_number c.group_at-g.result) ≡ older_steps (items_at a.image.now (drop l.a (take e a.places.now)))
 unfolding older_steps
@@ -42,15 +42,15 @@ steps c =
     let run = c.run_end-e in
     ap₂ older
     (items-run older_steps group_by c.args.image.now l.image c.args.places.now l.invariant.0 c.requires l.a run.result run.ensures)
-    (c.group_at-g.ensures.0 ∙ ap (λ (p : ℕ). group_by (item_at l.image p)) c.place_at.ensures
+    (c.group_at-g.ensures.0 ∙ ap (λ (p : ℕ). group_by (item_at l.image p)) c.from.ensures
     ∙ first_group older_steps group_by c.args.image.now l.image c.args.places.now l.invariant.0 c.requires l.a run.result run.ensures)
 
-pub returns-in_default : goal.returns-in_default
-returns-in_default c =
+pub returns-in_err-left : goal.returns-in_err-left
+returns-in_err-left c =
     let l = c.loop-a in
     let run = c.run_end-e in
-    let turn = c.drop_older-r.ensures in (
-      goes-stop _ l.invariant.1 (pass_left older_steps group_by c.args.image.now l.image c.args.places.now l.invariant.0 c.requires l.a run.result run.ensures) (rw (steps (goal.at.returns-in_default c).After-drop_older-r) at turn.0) c.in_default.is,
+    let turn = c.drop_older.ensures in (
+      goes_out _ l.invariant.1 (pass_left older_steps group_by c.args.image.now l.image c.args.places.now l.invariant.0 c.requires l.a run.result run.ensures) (rw (steps (goal.at.returns-in_err-left c).After-drop_older) at turn.0) c.in_err-left.was c.from_residual.ensures.0,
       alike_trans l.invariant.0 turn.1,
     )
 
@@ -62,9 +62,9 @@ pub loop-a-preserved : goal.loop-a-preserved
 loop-a-preserved c =
     let l = c.loop-a in
     let run = c.run_end-e in
-    let turn = c.drop_older-r.ensures in (
+    let turn = c.drop_older.ensures in (
       alike_trans l.invariant.0 turn.1,
-      goes_on l.invariant.1 (pass_left older_steps group_by c.args.image.now l.image c.args.places.now l.invariant.0 c.requires l.a run.result run.ensures) (rw (steps (goal.at.loop-a-preserved c).After-drop_older-r) at turn.0) c.in-Done.is,
+      goes_on l.invariant.1 (pass_left older_steps group_by c.args.image.now l.image c.args.places.now l.invariant.0 c.requires l.a run.result run.ensures) (rw (steps (goal.at.loop-a-preserved c).After-drop_older) at turn.0) c.in_ok-left.was,
     )
 
 pub returns : goal.returns

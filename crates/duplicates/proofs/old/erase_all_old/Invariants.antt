@@ -1,5 +1,4 @@
-use Prim.Native.Nat.{◌-◌, ◌≤◌}
-use lib.ListN.{length}
+use Prim.Native.Nat.{◌-◌}
 use Rattle.flash.specs.Did.{Goes}
 use Rattle.found.specs.Found.{erase_all}
 use Rattle.found.specs.Places.{items_at, Alike}
@@ -8,7 +7,4 @@ use Rattle.duplicates.proofs.Taking.{left_from}
 use Rattle.duplicates.proofs.old.erase_all_old.Given as goal
 
 abbrev pub invariant-loop-i : goal.invariant-loop-i
-invariant-loop-i l = (1 ≤ l.i) × Alike l.initial.image l.image × Goes (erase_all (old_of (items_at l.initial.image l.places) (items_at l.initial.image l.sorted))) l.allowed l.initial.image (left_from l.initial.image l.places l.sorted (l.i - 1)) l.left l.image
-
-abbrev pub decreases-loop-i : goal.decreases-loop-i
-decreases-loop-i l = length l.sorted - l.i
+invariant-loop-i l = Alike l.initial.image l.image × Goes (erase_all (old_of (items_at l.initial.image l.places) (items_at l.initial.image l.sorted))) l.allowed l.initial.image (left_from l.initial.image l.places l.sorted (l.i - 1)) l.left l.image

@@ -28,52 +28,30 @@ module _ (s : List ℕ) (small : (i : ℕ) → get_or s i 0 < 256) (a b c d : �
 pub overflow_cast-result : goal.overflow_cast-result
 unfolding pairs_below
 overflow_cast-result c =
-    omega (
-      arith,
-      (counted c.args.s.now (λ i. omega (arith, c.type_inv.s i)) _ _ _ _ c.le64-a.ensures c.le64-b.ensures
-          c.le64-c.ensures c.le64-d.ensures 1 (lit< tt) _ c.tally-written.ensures
-          ).1,
-    )
+    omega (arith, (counted c.args.s.now (λ i. omega (arith, c.type_inv.s i)) _ _ _ _ c.le64.ensures c.le64-2.ensures c.le64-3.ensures c.le64-4.ensures 1 (lit< tt) _ c.tally.ensures).1)
 
 pub overflow_cast-result-2 : goal.overflow_cast-result-2
 unfolding pairs_below
 overflow_cast-result-2 c =
-    omega (
-      arith,
-      (counted c.args.s.now (λ i. omega (arith, c.type_inv.s i)) _ _ _ _ c.le64-a.ensures c.le64-b.ensures
-          c.le64-c.ensures c.le64-d.ensures 3 (lit< tt) _ c.tally-erased.ensures
-          ).1,
-    )
+    omega (arith, (counted c.args.s.now (λ i. omega (arith, c.type_inv.s i)) _ _ _ _ c.le64.ensures c.le64-2.ensures c.le64-3.ensures c.le64-4.ensures 3 (lit< tt) _ c.tally-2.ensures).1)
 
 pub overflow_cast-result-3 : goal.overflow_cast-result-3
 unfolding pairs_below
 overflow_cast-result-3 c =
-    omega (
-      arith,
-      (counted c.args.s.now (λ i. omega (arith, c.type_inv.s i)) _ _ _ _ c.le64-a.ensures c.le64-b.ensures
-          c.le64-c.ensures c.le64-d.ensures 0 (lit< tt) _ c.tally-empty.ensures
-          ).1,
-    )
+    omega (arith, (counted c.args.s.now (λ i. omega (arith, c.type_inv.s i)) _ _ _ _ c.le64.ensures c.le64-2.ensures c.le64-3.ensures c.le64-4.ensures 0 (lit< tt) _ c.tally-3.ensures).1)
 
 pub overflow_cast-result-4 : goal.overflow_cast-result-4
 unfolding pairs_below
 overflow_cast-result-4 c =
-    omega (
-      arith,
-      (counted c.args.s.now (λ i. omega (arith, c.type_inv.s i)) _ _ _ _ c.le64-a.ensures c.le64-b.ensures
-          c.le64-c.ensures c.le64-d.ensures 2 (lit< tt) _ c.tally-illegal.ensures
-          ).1,
-    )
+    omega (arith, (counted c.args.s.now (λ i. omega (arith, c.type_inv.s i)) _ _ _ _ c.le64.ensures c.le64-2.ensures c.le64-3.ensures c.le64-4.ensures 2 (lit< tt) _ c.tally-4.ensures).1)
 
 pub returns : goal.returns
 unfolding totals_of pairs_below
 returns c =
-    let all =
-    counted c.args.s.now (λ i. omega (arith, c.type_inv.s i)) _ _ _ _ c.le64-a.ensures c.le64-b.ensures
-    c.le64-c.ensures c.le64-d.ensures in
+    let all = counted c.args.s.now (λ i. omega (arith, c.type_inv.s i)) _ _ _ _ c.le64.ensures c.le64-2.ensures c.le64-3.ensures c.le64-4.ensures in
     rw (
-      (all 1 (lit< tt) _ c.tally-written.ensures).0,
-      (all 3 (lit< tt) _ c.tally-erased.ensures).0,
-      (all 0 (lit< tt) _ c.tally-empty.ensures).0,
-      (all 2 (lit< tt) _ c.tally-illegal.ensures).0,
+      (all 1 (lit< tt) _ c.tally.ensures).0,
+      (all 3 (lit< tt) _ c.tally-2.ensures).0,
+      (all 0 (lit< tt) _ c.tally-3.ensures).0,
+      (all 2 (lit< tt) _ c.tally-4.ensures).0,
     )

@@ -1,38 +1,18 @@
--- `finish::newest_page` meets its contract: what is found so far is the newest of the pages from here on. Assumes nothing.
-use mathlib.Core.List.{List}
-use Rattle.lists.specs.Lists.{best as bestOf}
-use Rattle.table.specs.declared.Page.{Page}
-use Rattle.table.specs.Table.{listed}
-use Rattle.table.specs.Sought.{sought_of, better_of}
-use Rattle.table.proofs.Listing.{element, listed_end}
-use Rattle.table.proofs.Seeking.{best_more}
-use Rattle.finish.specs.Finish.{no_older_page, newest}
-use mathlib.Core.Path.{◌≡◌, sym, ap, ◌∙◌}
-use Prim.Native.Nat.{ℕ, ◌+◌, ◌-◌}
-use native.Mathlib.Omega.{arith}
-use lib.ListN.{drop}
+-- `finish::newest_page` meets its contract: the last among equals. Assumes nothing.
+use Rattle.std.proofs.Common.{◌∙◌, rules}
+use borrow.Author.Tests.{tests}
+use Rattle.std.proofs.lemmas.Iterator.{YieldsList-from_slice}
+use Rattle.table.specs.Table.{sequence}
+use Rattle.table.proofs.Found.{copied_is}
+use Rattle.table.proofs.Greatest.{max_by_key_from_yields_List, last_best}
+use Rattle.finish.specs.Finish.{newest}
 use Rattle.finish.proofs.newest.newest_page.Goals as goal
-
-pub loop-i-init : goal.loop-i-init
-unfolding bestOf
-loop-i-init c =
-    let t = c.args.table in
-    (omega arith, sym (ap (λ (xs : List Page). sought_of (bestOf no_older_page xs)) (listed_end t.pages t.count c.requires.list t.count (omega arith))))
-
-pub loop-i-preserved : goal.loop-i-preserved
-loop-i-preserved c =
-    let t = c.args.table in
-    let i = c.loop-i.i in
-    let e : i - 1 + 1 ≡ i = omega arith in (
-      omega arith,
-      c.newer_of-best.ensures
-          ∙ ap (better_of no_older_page _) (c.loop-i.invariant.1 ∙ ap (λ (k : ℕ). sought_of (bestOf no_older_page (drop k (listed t)))) (sym e))
-          ∙ best_more no_older_page _ (drop (i - 1 + 1) (listed t))
-          ∙ sym (ap (λ (xs : List Page). sought_of (bestOf no_older_page xs)) (element t.pages t.count c.requires.list (i - 1) _ (omega arith))),
-    )
 
 pub returns : goal.returns
 unfolding newest
 returns c =
-    let e : c.loop-i.i ≡ 0 = omega arith in
-    c.loop-i.invariant.1 ∙ ap (λ (k : ℕ). sought_of (bestOf no_older_page (drop k (listed c.args.table)))) e
+    let ps = c.args.table.now.pages.items in
+    c.copied.ensures
+    ∙ copied_is c.max_by_key.result
+    ∙ max_by_key_from_yields_List _ sequence c.max_by_key.result c.max_by_key.ensures.ran (YieldsList-from_slice ps (c.iter.ensures.rest ∙ c.deref.ensures.0)) (λ x r q k. search (rules, tests))
+    ∙ last_best sequence ps

@@ -1,124 +1,97 @@
 -- `finish::copy_afresh` meets its contract: the move's steps, and the lists with the target appended and the source's sector in its place.
 -- Assumes nothing.
+use Rattle.std.specs.Prelude.{Option as Answer}
+use Rattle.std.specs.List.{slice_get}
+use mathlib.Core.Path.{◌≡◌, refl, sym, ap, ◌∙◌}
 use mathlib.Core.Option.{none, some}
 use mathlib.Core.Logic.{inl}
 use mathlib.Core.List.{List, [], ◌∷◌, ◌++◌, get_last?}
-use Rattle.flash.specs.Step.{sector}
+use Prim.Native.Nat.{ℕ, ◌+◌, ◌-◌, ◌*◌, ◌≤◌}
+use native.Mathlib.Omega.{arith}
+use lib.ListN.{length}
 use Rattle.flash.specs.Did.{Did}
 use Rattle.flash.proofs.Frame.{length_run}
 use Rattle.flash.proofs.Laws.{did_none, did_all}
 use Rattle.flash.proofs.Sectors.{lent-sector}
 use Rattle.relocate.specs.Move.{moving}
 use Rattle.lists.proofs.Member.{◌∈◌}
+use Rattle.lists.proofs.Search.{last_in}
 use Rattle.table.specs.Table.{items_in, listed, freed}
-use Rattle.table.proofs.Out.{front_last}
-use Rattle.table.proofs.Held.{held-count, held_free, holds-own}
-use Rattle.table.proofs.Places.{in_front, page-fits, free_fits, free_other}
+use Rattle.table.proofs.Found.{last_found, last-none}
+use Rattle.table.proofs.Places.{page-fits, free_fits, free_other}
 use Rattle.finish.specs.Finish.{next_sequence, afresh}
-use mathlib.Core.Path.{◌≡◌, refl, ap, ◌∙◌}
-use Prim.Native.Nat.{ℕ, ◌+◌, ◌*◌, ◌-◌, ◌<◌, ◌≤◌}
-use native.Mathlib.Omega.{arith}
-use lib.ListN.{length, take, get_or}
+use Rattle.finish.proofs.Makes.{makes_out}
 use Rattle.finish.proofs.rounds.copy_afresh.Goals as goal
-use Rattle.finish.proofs.rounds.copy_afresh.Goals.{After-move_page-ran, Else-n-eq0, Start}
+use Rattle.finish.proofs.rounds.copy_afresh.Goals.{In-Some, After-move_page}
 
--- both lists have a place free, since the source is in neither
-room : (c : Start) → c.args.table.count < 16
-room c =
-    let t = c.args.table in
-    let a = held-count (holds-own c.requires.1) in
-    let b = held_free (holds-own c.requires.1) in
-    omega (arith, c.requires.2.sixteen)
+-- what stands last in the free list, as it was lent
+at_end : (fs ys : List ℕ) {o : Answer ℕ} → ys ≡ fs → o ≡ slice_get ys (length ys - 1) → slice_get fs (length fs - 1) ≡ o
+at_end fs ys same e = rw (← same) (sym e)
 
-pub prepend_page-requires : goal.prepend_page-requires
-prepend_page-requires c = (c.requires.1, room (goal.at.prepend_page-requires c).Start)
-
-pub returns-then-n-eq0 : goal.returns-then-n-eq0
+pub returns-in_default : goal.returns-in_default
 unfolding afresh
-returns-then-n-eq0 c =
-    let t = c.args.table in
-    let q : get_last? (freed t) ≡ none = ap (λ (k : ℕ). get_last? (take k t.free)) c.if-n-eq0.true in
+returns-in_default c =
+    let fs = freed c.args.table.now in
+    let q : get_last? fs ≡ none = last-none fs (at_end fs _ c.deref.ensures.0 (c.copied.ensures ∙ c.last.ensures.value) ∙ c.in_default.is) in
     rw q (record { did = did_none _ _; table = λ k e. rw c.as_full.ensures at c.prepend_page.ensures })
 
--- the target is a free sector
-free : (c : Else-n-eq0) → let t = c.args.table in get_or t.free (t.free_count - 1) 0 ∈ freed t
-free c =
-    let t = c.args.table in
-    in_front t.free t.free_count (t.free_count - 1) 0 c.requires.1.free (omega arith)
+-- the target is the last free sector
+last : (c : In-Some) → get_last? (freed c.args.table.now) ≡ some c.in-Some.target
+last c =
+    let fs = freed c.args.table.now in
+    last_found fs _ (at_end fs _ c.deref.ensures.0 (c.copied.ensures ∙ c.last.ensures.value) ∙ c.in-Some.is)
 
-fits : (c : Else-n-eq0) → let a = c.args in get_or a.table.free (a.table.free_count - 1) 0 * 4096 + 4096 ≤ length a.image.now
-fits c =
-    free_fits c.args.image.now c.args.image.now c.requires.2 refl _ (free c)
+free : (c : In-Some) → c.in-Some.target ∈ freed c.args.table.now
+free c = last_in (freed c.args.table.now) c.in-Some.target (last c)
 
-pub move_page-ran-requires : goal.move_page-ran-requires
-move_page-ran-requires c =
-    let l = c.args.image.now in (
-      c.requires.0,
-      page-fits l l c.requires.2 refl c.args.x (inl refl),
-      fits (goal.at.move_page-ran-requires c).Else-n-eq0,
-      free_other c.requires.2 c.args.x (inl refl) _ (free (goal.at.move_page-ran-requires c).Else-n-eq0),
-    )
+fits : (c : In-Some) → c.in-Some.target * 4096 + 4096 ≤ length c.args.image.now
+fits c = free_fits c.args.image.now c.args.image.now c.requires.0 refl _ (free c)
+
+pub move_page-requires : goal.move_page-requires
+move_page-requires c =
+    let l = c.args.image.now in
+    let s = (goal.at.move_page-requires c).In-Some in
+    rw (c.from-source.ensures, c.from-place.ensures) (page-fits l l c.requires.0 refl c.args.x (inl refl), fits s, free_other c.requires.0 c.args.x (inl refl) _ (free s))
 
 -- the steps that were made
-moved : (c : After-move_page-ran)
+moved : (c : After-move_page)
     →
     let a = c.args in
-    Did (moving a.x.sector (get_or a.table.free (a.table.free_count - 1) 0) (next_sequence a.x (listed a.table)) (items_in a.x.sector a.image.now) a.image.now)
-    a.allowance a.image.now c.move_page-ran.new.image c.move_page-ran.result
+    Did (moving a.x.sector c.in-Some.target (next_sequence a.x (listed a.table.now)) (items_in a.x.sector a.image.now) a.image.now) a.allowance a.image.now c.move_page.new.image c.move_page.result
 unfolding items_in
 moved c =
     let a = c.args in
-    let e : c.larger-top.result + 1 ≡ next_sequence a.x (listed a.table) = omega (arith, c.larger-top.ensures, c.greatest_sequence.ensures) in
-    rw e at c.move_page-ran.ensures
+    let e : c.max-top.result + 1 ≡ next_sequence a.x (listed a.table.now) = omega (arith, c.max-top.ensures, c.greatest_sequence.ensures) in
+    rw (e, c.from-source.ensures, c.from-place.ensures) at c.move_page.ensures
 
-kept : (c : After-move_page-ran)
-    →
-    let a = c.args in
-    length c.move_page-ran.new.image ≡ length a.image.now
-kept c = ap length (moved c).image ∙ length_run _ _
-
-pub overflow_mul-a : goal.overflow_mul-a
-overflow_mul-a c =
-    let h = fits (goal.at.overflow_mul-a c).Else-n-eq0 in omega arith
-
-pub overflow_add-e : goal.overflow_add-e
-overflow_add-e c =
-    let h = fits (goal.at.overflow_add-e c).Else-n-eq0 in omega arith
+pub returns-in_err-left : goal.returns-in_err-left
+unfolding afresh
+returns-in_err-left c =
+    rw (last (goal.at.returns-in_err-left c).In-Some) (makes_out _ _ (moved (goal.at.returns-in_err-left c).After-move_page) c.in_err-left.was c.from_residual.ensures.0)
 
 pub slice_bounds-see-end : goal.slice_bounds-see-end
 slice_bounds-see-end c =
-    let h = fits (goal.at.slice_bounds-see-end c).Else-n-eq0 in
-    let k = kept (goal.at.slice_bounds-see-end c).After-move_page-ran in
-    omega arith
-
-pub append_page-taken-requires : goal.append_page-taken-requires
-append_page-taken-requires c =
-    let h = room (goal.at.append_page-taken-requires c).Start in
-    (c.drop_free.ensures.0.sized, omega (arith, c.drop_free.ensures.1))
-
-pub join_free-requires : goal.join_free-requires
-join_free-requires c =
-    let f = c.append_page-taken.ensures in
-    let a = held_free f in
-    let b = held_free (holds-own c.drop_free.ensures.0.sized) in
-    (f.sized, omega (arith, c.drop_free.ensures.2))
+    let h = fits (goal.at.slice_bounds-see-end c).In-Some in
+    let m = moved (goal.at.slice_bounds-see-end c).After-move_page in
+    let kept : length c.move_page.new.image ≡ length c.args.image.now = ap length m.image ∙ length_run _ _ in
+    omega (arith, c.from-place.ensures)
 
 pub returns : goal.returns
 unfolding afresh
 returns c =
-    let t = c.args.table in
-    let q : get_last? (freed t) ≡ some (get_or t.free (t.free_count - 1) 0) = front_last t.free t.free_count 0 c.requires.1.free c.if-n-eq0.false in
-    rw q (
+    let m = moved (goal.at.returns c).After-move_page in
+    let t = c.in-Some.target in
+    let d = rw c.in_ok-left.was at m in
+    rw (last (goal.at.returns c).In-Some) (
     record {
-      did = moved (goal.at.returns c).After-move_page-ran;
+      did = d;
       table = λ k e.
-          let i = did_all (rw e at (moved (goal.at.returns c).After-move_page-ran)) in
-          let j = c.join_free.ensures.0 in
-          let f = c.append_page-taken.ensures in
-          let d = c.drop_free.ensures.0 in
+          let i = did_all d in
+          let j = c.join_free.ensures in
+          let f = c.append_page.ensures in
+          let g = c.drop_free.ensures.0 in
           record {
-            sized = j.sized;
-            list = j.list ∙ f.list ∙ rw (d.list, c.see-seen.ensures, lent-sector (get_or t.free (t.free_count - 1) 0) c.move_page-ran.new.image, i);
-            free = j.free ∙ ap (λ (r : List ℕ). r ++ (c.args.x.sector ∷ [])) (f.free ∙ d.free);
+            list = j.list ∙ f.list ∙ rw (g.list, c.see-seen.ensures, c.from-place.ensures, lent-sector t c.move_page.new.image, i);
+            free = j.free ∙ ap (λ (r : List ℕ). r ++ (c.args.x.sector ∷ [])) (f.free ∙ g.free);
           };
     })

@@ -14,42 +14,40 @@ use Rattle.finish.proofs.rounds.round.Goals as goal
 use Rattle.finish.proofs.rounds.round.Goals.{Start}
 
 -- the source is listed
-source_in : (c : Start) → c.args.x ∈ listed c.args.table
-source_in c = first_member freeing_page (listed c.args.table) c.args.x c.requires.3
+source_in : (c : Start) → c.args.x ∈ listed c.args.table.now
+source_in c = first_member freeing_page (listed c.args.table.now) c.args.x c.requires.1
 
 pub without_active-requires : goal.without_active-requires
 without_active-requires c =
-    let o = c.take_out-rest.ensures.0 in (
-      c.requires.0,
-      o.sized,
-      rw (o.list, o.free) (apart_placed c.args.x c.requires.2 (source_in (goal.at.without_active-requires c).Start)),
-      rw o.list (next-below (in_sector c.args.x.sector) c.args.x (listed c.args.table) (source_in (goal.at.without_active-requires c).Start) c.requires.4),
+    let o = c.take_out.ensures in
+    let m = source_in (goal.at.without_active-requires c).Start in (
+      rw (o.list, o.free) (apart_placed c.args.x c.requires.0 m),
+      rw o.list (next-below (in_sector c.args.x.sector) c.args.x (listed c.args.table.now) m c.requires.2),
     )
 
 pub returns-in_default : goal.returns-in_default
 unfolding round
 returns-in_default c =
-    let o = c.take_out-rest.ensures.0 in
-    let ps = take_out (in_sector c.args.x.sector) (listed c.args.table) in
+    let o = c.take_out.ensures in
+    let ps = take_out (in_sector c.args.x.sector) (listed c.args.table.now) in
     let e : first_of active_page ps ≡ none =
     ap (first_of active_page) (sym o.list) ∙ sym (first_same (in_state Active) active_page active_is _) ∙ sought_nothing _ (sym c.in_default.is ∙ c.first_in.ensures) in
     rw e (rw (o.list, o.free) at c.without_active.ensures)
 
 pub beside_active-requires : goal.beside_active-requires
 beside_active-requires c =
-    let o = c.take_out-rest.ensures.0 in (
-      c.requires.0,
-      o.sized,
-      rw (o.list, o.free) (apart_placed c.args.x c.requires.2 (source_in (goal.at.beside_active-requires c).Start)),
-      sym (first_same (in_state Active) active_page active_is _) ∙ sought_found _ _ (sym c.in-One.is ∙ c.first_in.ensures),
-      rw o.list (next-below (in_sector c.args.x.sector) c.args.x (listed c.args.table) (source_in (goal.at.beside_active-requires c).Start) c.requires.4),
+    let o = c.take_out.ensures in
+    let m = source_in (goal.at.beside_active-requires c).Start in (
+      rw (o.list, o.free) (apart_placed c.args.x c.requires.0 m),
+      sym (first_same (in_state Active) active_page active_is _) ∙ sought_found _ _ (sym c.in-Some.is ∙ c.first_in.ensures),
+      rw o.list (next-below (in_sector c.args.x.sector) c.args.x (listed c.args.table.now) m c.requires.2),
     )
 
 pub returns : goal.returns
 unfolding round
 returns c =
-    let o = c.take_out-rest.ensures.0 in
-    let ps = take_out (in_sector c.args.x.sector) (listed c.args.table) in
-    let e : first_of active_page ps ≡ some c.in-One.y =
-    ap (first_of active_page) (sym o.list) ∙ sym (first_same (in_state Active) active_page active_is _) ∙ sought_found _ _ (sym c.in-One.is ∙ c.first_in.ensures) in
+    let o = c.take_out.ensures in
+    let ps = take_out (in_sector c.args.x.sector) (listed c.args.table.now) in
+    let e : first_of active_page ps ≡ some c.in-Some.y =
+    ap (first_of active_page) (sym o.list) ∙ sym (first_same (in_state Active) active_page active_is _) ∙ sought_found _ _ (sym c.in-Some.is ∙ c.first_in.ensures) in
     rw e (rw (o.list, o.free) at c.beside_active.ensures)

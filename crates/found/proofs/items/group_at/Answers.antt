@@ -8,4 +8,4 @@ pub returns : goal.returns
 unfolding group_of
 returns c =
     let key = key_here c.args.image.now c.args.place c.requires in
-    (rw (c.key_at.ensures, ← key, c.wide.ensures.0, c.namespace_at.ensures), omega arith)
+    (rw (c.key_at.ensures, ← key, c.from.ensures, c.namespace_at.ensures), omega arith)

@@ -5,4 +5,4 @@ use Rattle.found.proofs.items.number_at.Goals as goal
 
 pub returns : goal.returns
 returns c =
-    omega (arith, c.size.ensures.0, byte_at c.args.image.now c.args.place c.requires 3 (omega arith))
+    omega (arith, c.from.ensures, byte_at c.args.image.now c.args.place c.requires 3 (omega arith))

@@ -12,5 +12,5 @@ pub returns : goal.returns
 returns c =
     let l = c.args.image.now in
     let p = c.args.place in
-    let e : c.size.result ≡ span_of (part l (p * 32) 32) = c.size.ensures.0 ∙ sym (part-byte l (p * 32) 32 2 (omega arith)) in
+    let e : c.from.result ≡ span_of (part l (p * 32) 32) = c.from.ensures ∙ sym (part-byte l (p * 32) 32 2 (omega arith)) in
     (e ∙ sym (byte-here l p c.requires 2 (omega arith)), rw e c.requires.some, rw e c.requires.ends)

@@ -5,13 +5,14 @@ use Rattle.entry.specs.Fields.{start_of}
 use Rattle.found.specs.Found.{start_in}
 use Rattle.found.proofs.Reading.{byte_at}
 use Rattle.found.proofs.items.start_at.Goals as goal
-
-pub returns-then-is_chunk : goal.returns-then-is_chunk
-unfolding start_in
-returns-then-is_chunk c =
-    rw (sym c.is_chunk.ensures ∙ c.if-is_chunk.true) (c.start.ensures ∙ ap start_of (sym (byte_at c.args.image.now c.args.place c.requires 3 (omega arith))))
+use Rattle.found.proofs.items.start_at.Goals.{then-is_chunk, else-is_chunk}
 
 pub returns : goal.returns
 unfolding start_in
 returns c =
-    rw (sym c.is_chunk.ensures ∙ c.if-is_chunk.false) (c.start-2.ensures ∙ ap start_of (sym (byte_at c.args.image.now c.args.place c.requires 29 (omega arith))))
+    let byte = byte_at c.args.image.now c.args.place c.requires in
+    let kind = sym c.is_chunk.ensures in
+    c.start.ensures ∙ elim c.if-is_chunk.branch [
+      | then-is_chunk w ↦ rw (kind ∙ w.if-is_chunk.true, w.at-is) (ap start_of (sym (byte 3 (omega arith))))
+      | else-is_chunk w ↦ rw (kind ∙ w.if-is_chunk.false, w.at-is) (ap start_of (sym (byte 29 (omega arith))))
+    ]

@@ -8,4 +8,4 @@ pub returns : goal.returns
 unfolding version_of
 returns c =
     let key = key_here c.args.image.now c.args.place c.requires in
-    (rw (c.key_at.ensures, ← key, c.wide-2.ensures.0, c.start_at.ensures, c.wide.ensures.0, c.namespace_at.ensures), omega arith)
+    (rw (c.key_at.ensures, ← key, c.from-2.ensures, c.start_at.ensures, c.from.ensures, c.namespace_at.ensures), omega arith)

@@ -1,6 +1,5 @@
 use mathlib.Core.Path.{◌≡◌}
-use Prim.Native.Nat.{◌-◌, ◌*◌, ◌≤◌}
-use lib.ListN.{length}
+use Prim.Native.Nat.{◌-◌, ◌*◌}
 use Rattle.flash.specs.Did.{Goes}
 use Rattle.word.specs.Number.{part}
 use Rattle.flash.specs.Words.{words}
@@ -8,8 +7,5 @@ use Rattle.item.proofs.copy.copy_words.Given as goal
 
 abbrev pub invariant-loop-k : goal.invariant-loop-k
 invariant-loop-k l =
-    (l.k ≤ l.n) × (length l.image ≡ length l.initial.image) × (part l.image l.from (l.n * 4) ≡ part l.initial.image l.from (l.n * 4))
+    (part l.image l.from (l.n * 4) ≡ part l.initial.image l.from (l.n * 4))
     × Goes (words l.to (part l.initial.image l.from (l.n * 4)) 0 l.n) l.allowed l.initial.image (words l.to (part l.initial.image l.from (l.n * 4)) l.k (l.n - l.k)) l.left l.image
-
-abbrev pub decreases-loop-k : goal.decreases-loop-k
-decreases-loop-k l = l.n - l.k

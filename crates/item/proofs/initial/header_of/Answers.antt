@@ -4,4 +4,5 @@ use Rattle.item.proofs.initial.header_of.Goals as goal
 
 pub returns : goal.returns
 unfolding header body bytes4
-returns c = rw c.crc-c.ensures
+returns c =
+    rw (c.copy_from_slice-2.ensures.after, c.to_le_bytes-2.ensures, c.crc-c.ensures, c.copy_from_slice.ensures.after, c.to_le_bytes.ensures)

@@ -25,7 +25,7 @@ returns c =
     let h = entry_at s i in
     let is : is_item s i ≡ true = sym c.is_item.ensures ∙ c.if-not-is_item.false in
     let kind : kind_in h ≡ c.kind_of.result = ap kind_of (part-byte s (64 + i * 32) 32 1 (lit< tt)) ∙ sym c.kind_of.ensures in
-    let span : span_of h ≡ c.size.result = part-byte s (64 + i * 32) 32 2 (lit< tt) ∙ sym c.size.ensures.0 in
+    let span : span_of h ≡ c.from.result = part-byte s (64 + i * 32) 32 2 (lit< tt) ∙ sym c.from.ensures in
     let low : get_or h 0 0 ≡ get_or s (64 + i * 32) 0 = part-byte s (64 + i * 32) 32 0 (lit< tt) ∙ ap (λ (x : ℕ). get_or s x 0) (add-zero (64 + i * 32)) in
     let third : get_or h 3 0 ≡ get_or s (64 + i * 32 + 3) 0 = part-byte s (64 + i * 32) 32 3 (lit< tt) in
     rw (is, ← kind, ← span, low, third, c.key_at.ensures, c.le64.ensures, le-part s (64 + i * 32) 32 24 8 (lit≤ tt))

@@ -24,15 +24,15 @@ fits_on s i n b q h k =
     (e, m, omega arith, omega arith)
 
 pub overflow_add-i-then-is_item-2 : goal.overflow_add-i-then-is_item-2
-overflow_add-i-then-is_item-2 c = let e = fits_on c.args.s.now c.loop-i.i c.size-i.result c.is_item.result c.is_item.ensures c.if-is_item.true c.size-i.ensures.0 in omega arith
+overflow_add-i-then-is_item-2 c = let e = fits_on c.args.s.now c.loop-i.i c.from-i.result c.is_item.result c.is_item.ensures c.if-is_item.true c.from-i.ensures in omega arith
 
 pub loop-i-smaller-then-is_item : goal.loop-i-smaller-then-is_item
-loop-i-smaller-then-is_item c = let e = fits_on c.args.s.now c.loop-i.i c.size-i.result c.is_item.result c.is_item.ensures c.if-is_item.true c.size-i.ensures.0 in omega arith
+loop-i-smaller-then-is_item c = let e = fits_on c.args.s.now c.loop-i.i c.from-i.result c.is_item.result c.is_item.ensures c.if-is_item.true c.from-i.ensures in omega arith
 
 pub loop-i-preserved-then-is_item : goal.loop-i-preserved-then-is_item
 loop-i-preserved-then-is_item c =
     let s = c.args.s.now in
-    let e = fits_on c.args.s.now c.loop-i.i c.size-i.result c.is_item.result c.is_item.ensures c.if-is_item.true c.size-i.ensures.0 in
+    let e = fits_on c.args.s.now c.loop-i.i c.from-i.result c.is_item.result c.is_item.ensures c.if-is_item.true c.from-i.ensures in
     let passed = unread_item s c.loop-i.i e.0 in
     (omega arith, omega arith, rw e.1 (omega (arith, passed)))
 

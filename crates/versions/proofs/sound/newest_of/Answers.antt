@@ -1,48 +1,51 @@
 -- `versions::newest_of` meets its contract: what is found so far is the newest from here on. Assumes nothing.
 use mathlib.Core.Path.{◌≡◌, sym, ap, ◌∙◌}
-use Prim.Native.Nat.{ℕ, ◌+◌, ◌-◌}
-use native.Mathlib.Omega.{arith}
-use lib.ListN.{length, drop, get_or}
+use Prim.Native.Nat.{ℕ}
+use mathlib.Core.List.{List}
 use Rattle.lists.specs.Lists.{keep, best as bestOf}
 use Rattle.found.specs.Ranks.{rank_number}
 use Rattle.found.specs.Places.{item_at, items_at, Placed}
-use Rattle.found.proofs.Reading.{items_more, items_end}
-use Rattle.lists.proofs.Each.{each_at}
+use Rattle.found.proofs.Backward.{left_all, left_each, left_more, passed, passed_all, passed_more, passed_none}
 use Rattle.versions.specs.Search.{newest_of, newest_index, newest_with}
 use Rattle.versions.proofs.Newer.{newest_more}
 use Rattle.versions.proofs.sound.newest_of.Goals as goal
 
-pub loop-i-init : goal.loop-i-init
+pub loop-place-init : goal.loop-place-init
 unfolding newest_index keep bestOf
-loop-i-init c =
-    let a = c.args in
-    (omega arith, sym (ap (newest_index (rank_number a.v) (rank_number a.w)) (items_end a.image.now a.places.now (length a.places.now) (omega arith))), tt)
+loop-place-init c =
+    let places = c.args.places.now in
+    rw (c.into_iter-place-iterator.ensures.into_iter_gives, c.rev-place-items.ensures.source, c.iter.ensures.rest) record {
+      left = left_all places;
+      newest = sym (ap (λ (ps : List ℕ). newest_index (rank_number c.args.v) (rank_number c.args.w) (items_at c.args.image.now ps)) (passed_none places));
+      placed = tt;
+    }
 
 pub newer_of-best-requires : goal.newer_of-best-requires
 newer_of-best-requires c =
-    let l = c.loop-i in
-    (rw c.place_at.ensures (each_at (Placed c.args.image.now) c.args.places.now 0 c.requires (l.i - 1) (omega arith)), l.invariant.2)
+    let l = c.loop-place in
+    let here = left_each c.args.places.now _ _ _ l.invariant.left c.in-Some.ensures.steps (Placed c.args.image.now) c.requires in
+    (rw c.from.ensures here, l.invariant.placed)
 
-pub loop-i-preserved : goal.loop-i-preserved
-loop-i-preserved c =
-    let a = c.args in
-    let l = c.loop-i in
-    let image = a.image.now in
-    let places = a.places.now in
-    let v = rank_number a.v in
-    let w = rank_number a.w in
-    let e : l.i - 1 + 1 ≡ l.i = omega arith in (
-      omega arith,
-      c.newer_of-best.ensures.0
-          ∙ ap (λ (p : ℕ). newest_with v w (item_at image p) (newest_of image l.best)) c.place_at.ensures
-          ∙ ap (newest_with v w _) (l.invariant.1 ∙ ap (λ (k : ℕ). newest_index v w (items_at image (drop k places))) (sym e))
-          ∙ sym (newest_more v w (item_at image (get_or places (l.i - 1) 0)) (items_at image (drop (l.i - 1 + 1) places)))
-          ∙ sym (ap (newest_index v w) (items_more image places (l.i - 1) (omega arith))),
-      c.newer_of-best.ensures.1,
-    )
+pub loop-place-preserved : goal.loop-place-preserved
+loop-place-preserved c =
+    let l = c.loop-place in
+    let image = c.args.image.now in
+    let places = c.args.places.now in
+    let v = rank_number c.args.v in
+    let w = rank_number c.args.w in
+    let more = passed_more places _ _ _ l.invariant.left c.in-Some.ensures.steps in record {
+      left = left_more places _ _ _ l.invariant.left c.in-Some.ensures.steps;
+      newest =
+          c.newer_of-best.ensures.0
+          ∙ ap (λ (p : ℕ). newest_with v w (item_at image p) (newest_of image l.best)) c.from.ensures
+          ∙ ap (newest_with v w _) l.invariant.newest
+          ∙ sym (newest_more v w _ (items_at image (passed places l.place-iterator.iter.rest.now)))
+          ∙ sym (ap (λ (ps : List ℕ). newest_index v w (items_at image ps)) more);
+      placed = c.newer_of-best.ensures.1;
+    }
 
 pub returns : goal.returns
 returns c =
-    let a = c.args in
-    let e : c.loop-i.i ≡ 0 = omega arith in
-    (c.loop-i.invariant.1 ∙ ap (λ (k : ℕ). newest_index (rank_number a.v) (rank_number a.w) (items_at a.image.now (drop k a.places.now))) e, c.loop-i.invariant.2)
+    let l = c.loop-place in
+    let all : passed c.args.places.now l.place-iterator.iter.rest.now ≡ c.args.places.now = passed_all c.args.places.now _ c.in-None.ensures.steps.0 in
+    (l.invariant.newest ∙ ap (λ (ps : List ℕ). newest_index (rank_number c.args.v) (rank_number c.args.w) (items_at c.args.image.now ps)) all, l.invariant.placed)
