@@ -17,7 +17,7 @@ pub enum Stage {
     Reclaim,
 }
 
-// Done and Stopped are no refusals: they say how many steps were made.
+// One enum with a number for each case, as document 01 has the answers, and no Result: Done and Stopped are no refusals, they say how many steps were made.
 #[derive(Clone, Copy)]
 pub enum Answer {
     Done(u64),

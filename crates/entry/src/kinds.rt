@@ -2,7 +2,7 @@
 ghost use Rattle.std.specs.Prelude.{◌≡◌};
 ghost use Rattle.entry.specs.Kinds.{kind_of, known};
 
-// A whole number's kind holds its width in bytes.
+// A whole number's kind holds its width in bytes. Unknown is a kind too, since every type byte is judged.
 #[derive(Clone, Copy)]
 pub enum Kind {
     Unsigned(u8),

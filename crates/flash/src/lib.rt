@@ -15,7 +15,8 @@ pub struct Stopped;
 // What became of a list of steps: what is left of the allowance, so that the next list goes on with it.
 pub type Ran = Result<u64, Stopped>;
 
-// Programs the word at `at`: each of its bytes becomes its AND with that of `word`.
+// Programs the word at `at`: each of its bytes becomes its AND with that of `word`. Here and above image and allowance stand side by side: a struct of both
+// would hold a `&mut`, and each contract would have to say that it is still the same one.
 pub fn program_word(image: &mut [u8], at: usize, word: [u8; 4], left: u64) -> Ran
     requires { at + 4 ≤ length image.old }
     ensures { Did (program at (slice_index word 0) (slice_index word 1) (slice_index word 2) (slice_index word 3) ∷ []) left image.old image.new result }

@@ -8,7 +8,7 @@ ghost use Rattle.found.specs.Ranks.{rank_number};
 use super::ranks::Rank;
 use layout::{ENTRY_BYTES, SECTOR_BYTES, SECTOR_PLACES, VERSION_CHUNKS};
 
-// By the type byte alone, as each item is asked for it more than once.
+// By the type byte alone, as each item is asked for it more than once. Two tests of a line each, since their contracts name the kinds and not a number.
 pub fn is_chunk(image: &[u8], place: usize) -> bool
     requires { Placed image.now place }
     ensures { result ≡ is_chunk (item_at image.now place).raw }

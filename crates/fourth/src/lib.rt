@@ -23,7 +23,8 @@ use layout::SECTOR_BYTES;
 use sort::Order;
 use table::{Page, Table};
 
-// The groups one after the other: the first `n` places are sorted by them. Each step is as long as the run that begins there.
+// The groups one after the other: the first `n` places are sorted by them. Each step is as long as the run that begins there. (A
+// loop like those of blobs: one over closures would ask for more clauses than it has lines.)
 fn take_runs(image: &mut [u8], room: &mut [u16], n: usize, allowed: u64) -> Ran
     requires { Each (Placed image.old) (take n room.old) × (n ≤ most_items) × (sort_room ≤ length room.old) }
     ensures { Did (flat_map run_steps (runs group_by (items_at image.old (take n room.old)))) allowed image.old image.new result × Alike image.old image.new }

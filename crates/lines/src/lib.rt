@@ -9,6 +9,7 @@ use answer::Answer;
 use page::{PageRecord, PageState};
 use text::Text;
 
+// Names by a match: there is nothing to derive them from.
 fn state_name(state: PageState) -> &'static [u8]
     ensures { result.now ≡ state_name state }
 {

@@ -48,6 +48,7 @@ fn tell(rt: &impl Eprint, name: &str, listed: io::Result<()>) {
 }
 
 fn main(rt: HostRuntime) {
+    // no heap: the library fills a lent array and says how far
     let mut path = [0u8; 4096];
     match rt.arg(1, &mut path) {
         Ok(0) | Err(FillError::TooLong) => {

@@ -7,7 +7,7 @@ use crate::state::PageState;
 
 // What is told of a sector: the numbers are 0 where it is free. `unread` counts the Written entries that the walk reaches and that are no item; it stands beside
 // the state, where a record is no larger for it.
-#[derive(Clone, Copy)]
+#[derive(Clone, Copy, Default)]
 pub struct PageRecord {
     pub state: PageState,
     pub unread: u8,

@@ -12,8 +12,8 @@ use page::ItemHeader;
 // No page has more unread entries than it has entries.
 const MOST_UNREAD: u8 = 126;
 
-// What the reader hands out. `End(n)`: no item is left, and n entries were passed over unread since the reader began. `NotSector` is result 1: the lent
-// bytes are not 4,096.
+// What the reader hands out: one of three, so no Option. `End(n)`: no item is left, and n entries were passed over unread since the reader began.
+// `NotSector` is result 1: the lent bytes are not 4,096.
 #[derive(Clone, Copy)]
 pub enum Handed {
     Item(ItemHeader),

@@ -15,7 +15,7 @@ use layout::{MOST_SECTORS, SECTOR_BYTES};
 use page::{PageRecord, PageState};
 pub use scanned::{Scanned, see_all};
 
-// The records of an image's sectors: `count` is 0 where a call stores none.
+// The records of an image's sectors: `count` is 0 where a call stores none. An array with its count, as recovery promises sixteen rows by value.
 #[derive(Clone, Copy)]
 pub struct Rows {
     pub rows: [PageRecord; MOST_SECTORS],
@@ -25,15 +25,7 @@ pub struct Rows {
 fn blank_record() -> PageRecord
     ensures { result ≡ blank_record }
 {
-    PageRecord {
-        state: PageState::Blank,
-        unread: 0,
-        sequence: 0,
-        written: 0,
-        erased: 0,
-        empty: 0,
-        illegal: 0,
-    }
+    PageRecord::default()
 }
 
 // Of a call that is refused or stopped.

@@ -3,6 +3,7 @@ use crate::bytes::{low, put_four};
 use answer::{Answer, Stage};
 use std::io;
 
+// The protocol's bytes: both types are of other crates, so no From stands here.
 fn stage_number(answer: Answer) -> u8 {
     match answer {
         Answer::Stopped(Stage::Order, _) => 1,

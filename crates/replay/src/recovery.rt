@@ -19,6 +19,7 @@ const UNCHANGED: PageRecord = PageRecord {
     illegal: 0xEE,
 };
 
+// The protocol's byte, as with the stages.
 fn state_number(state: PageState) -> u8 {
     match state {
         PageState::Blank => 0,

@@ -20,7 +20,7 @@ pub struct Page {
     pub seen: Seen,
 }
 
-// The page list and the free list of an image of at most 16 sectors.
+// The page list and the free list of an image of at most 16 sectors. That these are sectors of the image at hand is said in the contracts: the calls change it.
 #[derive(Drop)]
 pub struct Table {
     pub pages: ArrayVec<Page, MOST_SECTORS>,

@@ -45,6 +45,7 @@ impl<'a> Text<'a> {
     pub fn number(&mut self, n: u64)
         ensures { Grown self.old (decimal n) self.new }
     {
+        // no heap: the digits are put into an array
         let mut digits = [0u8; 20];
         let k = io::decimal(n, &mut digits);
         self.text(&digits[..k]);

@@ -1,4 +1,5 @@
-// C names for the benchmark and the cuts: the proved code as it stands, on plain slices. Nothing here is offered to users.
+// C names for the benchmark and the cuts: the proved code as it stands, on plain slices. Nothing here is offered to users. Each answers one
+// number, so some stand in pairs.
 #![tactic(auto)]
 
 use answer::Answer;
