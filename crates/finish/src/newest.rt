@@ -12,7 +12,11 @@ use table::{Page, Table};
 fn newest_page(table: &Table) -> Option<Page>
     ensures { result ≡ sought_of (newest (listed table.now)) }
 {
-    table.pages.iter().max_by_key(|p| p.seen.sequence).copied()
+    table
+        .listed()
+        .iter()
+        .max_by_key(|p| p.seen.sequence)
+        .copied()
 }
 
 // Whether the newest page of the list is newer than the source `x` and holds each of its items.

@@ -1,5 +1,5 @@
 // A round of stage 2: one source is finished.
-ghost use Rattle.std.specs.Prelude.{◌≡◌, cond, ◌+◌, ◌*◌, ◌<◌};
+ghost use Rattle.std.specs.Prelude.{◌≡◌, cond, ◌+◌, ◌*◌, ◌<◌, OnErr};
 ghost use Rattle.std.proofs.Math.Option.{some, none};
 ghost use mathlib.Core.List.{[], ◌∷◌, ◌++◌, get_last?};
 ghost use Rattle.flash.specs.Step.{erase, run};
@@ -21,7 +21,7 @@ fn copy_afresh(image: &mut [u8], x: Page, table: &mut Table, allowance: u64) -> 
     requires { PagesPlaced (sectors_of image.old) (x ∷ listed table.old) (freed table.old) × (next_sequence x (listed table.old) < 0x1_0000_0000) }
     ensures { Makes (afresh x (listed table.old) (freed table.old) image.old (get_last? (freed table.old))) allowance image.old image.new result table.new }
 {
-    let Some(target) = table.free.last().copied() else {
+    let Some(target) = table.freed().last().copied() else {
         table.prepend_page(table::as_full(x));
         return Ok(allowance);
     };
@@ -76,8 +76,8 @@ fn without_active(image: &mut [u8], x: Page, table: &mut Table, allowance: u64) 
     copy_afresh(image, x, table, allowance)
 }
 
-// The round of the source `x`, the first Freeing page. The lists that it leaves count only where all steps were made.
-pub fn round(image: &mut [u8], x: Page, table: &mut Table, allowance: u64) -> Ran
+// The round of the source `x`, the first Freeing page, on lists that count only where all its steps were made.
+fn make_round(image: &mut [u8], x: Page, table: &mut Table, allowance: u64) -> Ran
     requires { PagesPlaced (sectors_of image.old) (listed table.old) (freed table.old) × (first_of freeing_page (listed table.old) ≡ some x) × (greatest sequence (listed table.old) < 0xFFFF_FFFF) }
     ensures { Makes (round x (listed table.old) (freed table.old) image.old) allowance image.old image.new result table.new }
 {
@@ -86,4 +86,16 @@ pub fn round(image: &mut [u8], x: Page, table: &mut Table, allowance: u64) -> Ra
         return without_active(image, x, table, allowance);
     };
     beside_active(image, x, y, table, allowance)
+}
+
+// The round of the source `x`, the first Freeing page. Where not all steps were made the lists stay as they were.
+pub fn round(image: &mut [u8], x: Page, table: &mut Table, allowance: u64) -> Ran
+    requires { PagesPlaced (sectors_of image.old) (listed table.old) (freed table.old) × (first_of freeing_page (listed table.old) ≡ some x) × (greatest sequence (listed table.old) < 0xFFFF_FFFF) }
+    ensures made { Makes (round x (listed table.old) (freed table.old) image.old) allowance image.old image.new result table.new }
+    ensures stopped { OnErr result (table.new ≡ table.old) }
+{
+    let mut lists = *table;
+    let left = make_round(image, x, &mut lists, allowance)?;
+    *table = lists;
+    Ok(left)
 }

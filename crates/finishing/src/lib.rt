@@ -17,17 +17,18 @@ pub fn count_freeing(table: &Table) -> usize
     ensures { (result ≡ freeings (listed table.now)) × (result ≤ 16) }
 {
     table
-        .pages
+        .listed()
         .iter()
         .filter(|p| p.seen.state == PageState::Freeing)
         .count()
 }
 
-// So many rounds: each takes one page that counts as Freeing away. Nothing is said of the lists that they leave.
-pub fn finish_all(image: &mut [u8], table: &mut Table, rounds: usize, allowed: u64) -> Went
-    requires { PagesPlaced (sectors_of image.old) (listed table.old) (freed table.old) × (greatest sequence (listed table.old) + rounds ≤ 0xFFFF_FFFE) }
-    ensures { Made (finishing rounds (listed table.old) (freed table.old) image.old) allowed image.old image.new result }
+// So many rounds: each takes one page that counts as Freeing away.
+pub fn finish_all(image: &mut [u8], table: Table, rounds: usize, allowed: u64) -> Went
+    requires { PagesPlaced (sectors_of image.old) (listed table) (freed table) × (greatest sequence (listed table) + rounds ≤ 0xFFFF_FFFE) }
+    ensures { Made (finishing rounds (listed table) (freed table) image.old) allowed image.old image.new result }
 {
+    let mut table = table;
     let mut left = allowed;
     for _ in 0..rounds {
         // there is one as long as rounds are left; to say so would be a premise more
@@ -35,7 +36,7 @@ pub fn finish_all(image: &mut [u8], table: &mut Table, rounds: usize, allowed: u
             return Ok(left);
         };
         let stage = Stage::Finish(usize::from(x.sector));
-        left = answer::in_stage(stage, finish::round(image, x, table, left))?;
+        left = answer::in_stage(stage, finish::round(image, x, &mut table, left))?;
     }
     Ok(left)
 }

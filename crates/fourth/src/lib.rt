@@ -63,7 +63,7 @@ pub fn make_last_marks(image: &mut [u8], table: &Table, allowed: u64) -> Ran
     ensures { Did (last_marks (listed table.now) image.old) allowed image.old image.new result }
 {
     let mut left = allowed;
-    for p in table.pages.iter() {
+    for p in table.listed().iter() {
         if is_used_up(image, *p) {
             left = item::mark_full(image, usize::from(p.sector), left)?;
         }

@@ -30,7 +30,7 @@ pub fn gather(image: &[u8], table: &Table, out: &mut [u16], notes: &mut [u16]) -
     ensures { (take result out.new ≡ map place_of (found (listed table.now) image.now)) × (result ≤ most_items) × Noted notes.new image.now }
 {
     let mut k: usize = 0;
-    for p in table.pages.iter() {
+    for p in table.listed().iter() {
         k = gather_page(image, *p, out, k, notes);
     }
     k

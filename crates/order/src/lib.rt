@@ -12,16 +12,19 @@ ghost use Rattle.order.specs.Turns.{closed_page, full_marks, kept_mark};
 use flash::Ran;
 use table::{Page, Table};
 
-// The Active page that stays: that of greatest sequence. The list is gone through from its end, so that the first of equals stands.
+// The Active page that stays: that of greatest sequence, the first among equals, as a later one takes its place only if its sequence is greater.
 fn kept_page(table: &Table) -> Option<Page>
     ensures { result ≡ sought_of (kept (listed table.now)) }
 {
     table
-        .pages
+        .listed()
         .iter()
-        .rev()
         .filter(|p| table::is_active(p.seen.state))
-        .max_by_key(|p| p.seen.sequence)
+        .reduce(|stays, p| if stays.seen.sequence < p.seen.sequence {
+            p
+        } else {
+            stays
+        })
         .copied()
 }
 
@@ -40,8 +43,8 @@ fn close(p: Page) -> Page
 fn close_all(table: &mut Table)
     ensures { Holds table.new (map closed_page (listed table.old)) (freed table.old) }
 {
-    for p in table.pages.iter_mut() {
-        *p = close(*p);
+    for i in 0..table.count {
+        table.pages[i] = close(table.pages[i]);
     }
 }
 
@@ -62,7 +65,7 @@ fn mark_all(image: &mut [u8], table: &Table, allowance: u64) -> Ran
     ensures { Did (full_marks (listed table.now)) allowance image.old image.new result }
 {
     let mut left = allowance;
-    for p in table.pages.iter() {
+    for p in table.listed().iter() {
         if table::is_active(p.seen.state) {
             left = item::mark_full(image, usize::from(p.sector), left)?;
         }

@@ -40,10 +40,14 @@ fn choose(table: &Table, top: u32) -> Option<Page>
 {
     let next = u64::from(top) + 1;
     table
-        .pages
+        .listed()
         .iter()
         .filter(|p| p.seen.written < ALL_ENTRIES)
-        .max_by_key(|p| points_of(next, p))
+        .reduce(|best, p| if points_of(next, best) <= points_of(next, p) {
+            p
+        } else {
+            best
+        })
         .copied()
 }
 
@@ -51,7 +55,7 @@ fn choose(table: &Table, top: u32) -> Option<Page>
 fn last_free(table: &Table) -> Option<usize>
     ensures { result ≡ target_of (get_last? (freed table.now)) }
 {
-    table.free.last().map(|s| usize::from(*s))
+    table.freed().last().map(|s| usize::from(*s))
 }
 
 // The crate marks the page Freeing before it looks for a free one; here the looking comes first, so that a refusal changes nothing.

@@ -23,7 +23,7 @@ fn fill_all(image: &[u8], table: &Table, slots: &mut [u16], notes: &mut [u16]) -
 {
     slots::clear(slots);
     let mut places = [0u16; PAGE_ENTRIES];
-    for p in table.pages.iter() {
+    for p in table.listed().iter() {
         let k = gathering::gather_page(image, *p, &mut places, 0, notes);
         if !slots::fill(image, &places[..k], slots) {
             return false;

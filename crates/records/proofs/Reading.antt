@@ -47,3 +47,6 @@ module _ {X : Type 0} (f : List ℕ → X) (l : List ℕ) where
     -- the rows that count
     pub rows-read : take n (rows n) ≡ each_to f l n
     rows-read = take_at (each_to f l n) (replicate (16 - n) blank) n (length-each n)
+
+    pub rows-there : n ≤ length (rows n)
+    rows-there = omega (arith, length-append (each_to f l n) (replicate (16 - n) blank), length-each n)

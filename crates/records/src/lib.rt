@@ -2,6 +2,7 @@
 #![tactic(auto)]
 
 mod scanned;
+mod seeing;
 
 ghost use Rattle.std.specs.Prelude.{◌≡◌, ◌+◌, ◌*◌, ◌<◌, ◌≤◌, length, get_or};
 ghost use Rattle.flash.specs.Step.{sector};
@@ -13,7 +14,8 @@ ghost use Rattle.records.specs.Notes.{Noted};
 
 use layout::{MOST_SECTORS, SECTOR_BYTES};
 use page::{PageRecord, PageState};
-pub use scanned::{Scanned, see_all};
+pub use scanned::Scanned;
+pub use seeing::see_all;
 
 // The records of an image's sectors: `count` is 0 where a call stores none. An array with its count, as recovery promises sixteen rows by value.
 #[derive(Clone, Copy)]
@@ -56,14 +58,14 @@ fn unread_in(image: &[u8], n: usize, state: PageState, notes: &[u16]) -> u8
 
 // The record of each sector that was scanned, in sector order.
 pub fn make_rows(image: &[u8], scanned: &Scanned, notes: &[u16]) -> Rows
-    requires { (length image.now ≡ length scanned.now.items * 4096) × (scanned.now ≡ scanned_of image.now (length scanned.now.items)) × Noted notes.now image.now }
-    ensures { result ≡ rows_of image.now (length scanned.now.items) }
+    requires { (length image.now ≡ scanned.now.count * 4096) × (scanned.now ≡ scanned_of image.now scanned.now.count) × Noted notes.now image.now }
+    ensures { result ≡ rows_of image.now scanned.now.count }
 {
     let mut rows = [blank_record(); MOST_SECTORS];
-    for (n, seen) in scanned.iter().enumerate() {
+    for (n, seen) in scanned.listed().iter().enumerate() {
         rows[n] = page::with_unread(*seen, unread_in(image, n, seen.state, notes));
     }
-    let count = scanned.len();
+    let count = scanned.count;
     Rows { rows, count }
 }
 

@@ -1,23 +1,22 @@
-// What the scan sees of each sector.
-ghost use Rattle.std.specs.Prelude.{◌≡◌, ◌*◌, ◌≤◌, length};
-ghost use Rattle.records.specs.Scanned.{scanned_of};
+// What the scan sees of each sector, by value.
+ghost use Rattle.std.specs.Prelude.{◌≡◌, ◌≤◌, length, take};
 
-use arrayvec::ArrayVec;
-use layout::{MOST_SECTORS, SECTOR_BYTES};
+use layout::MOST_SECTORS;
 use page::Seen;
 
-// One for each sector, in sector order.
-pub type Scanned = ArrayVec<Seen, MOST_SECTORS>;
+// The first `count` places, one for each sector, in sector order.
+#[derive(Clone, Copy)]
+pub struct Scanned {
+    pub seen: [Seen; MOST_SECTORS],
+    pub count: usize,
+    ghost sixteen: { count ≤ 16 },
+}
 
-// Each sector once, in sector order.
-pub fn see_all(image: &[u8], sectors: usize) -> Scanned
-    requires { (length image.now ≡ sectors * 4096) × (sectors ≤ 16) }
-    ensures { result ≡ scanned_of image.now sectors }
-{
-    let mut scanned: Scanned = ArrayVec::new();
-    for n in 0..sectors {
-        let a = n * SECTOR_BYTES;
-        scanned.push(page::see(&image[a..a + SECTOR_BYTES]));
+impl Scanned {
+    // What was seen of the sectors. (The clause tells the array's length too, which a caller can't read off a value that is only lent.)
+    pub fn listed(&self) -> &[Seen]
+        ensures { (result.now ≡ take self.now.count self.now.seen) × (length self.now.seen ≡ 16) }
+    {
+        &self.seen[..self.count]
     }
-    scanned
 }

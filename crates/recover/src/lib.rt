@@ -43,13 +43,13 @@ fn without_rows(answer: Answer) -> Recovered
 
 // What is seen of the image as the stages left it, with `left` steps still allowed: without a step it is still the one that was scanned.
 fn see_again(image: &[u8], scanned: Scanned, left: u64, allowance: u64) -> Scanned
-    requires { (length image.now ≡ length scanned.items * 4096) × (left ≡ allowance → scanned ≡ scanned_of image.now (length scanned.items)) }
-    ensures { result ≡ scanned_of image.now (length scanned.items) }
+    requires { (length image.now ≡ scanned.count * 4096) × (left ≡ allowance → scanned ≡ scanned_of image.now scanned.count) }
+    ensures { result ≡ scanned_of image.now scanned.count }
 {
     if left == allowance {
         return scanned;
     }
-    records::see_all(image, scanned.len())
+    records::see_all(image, scanned.count)
 }
 
 // Recovers the image by at most `allowance` steps, where `lent` records are lent.
@@ -64,12 +64,12 @@ pub fn recover_image(image: &mut [u8], lent: usize, allowance: u64) -> Recovered
         return without_rows(Answer::FewRecords);
     }
     let scanned = records::see_all(image, sectors);
-    let mut table = table::list_seen(&scanned);
+    let table = table::list_seen(&scanned);
     if is_too_high(&table) {
         return without_rows(Answer::SequencesSpent);
     }
     let mut notes = [0u16; MOST_SECTORS];
-    let went = stages::make_stages(image, &mut table, &mut notes, allowance);
+    let went = stages::make_stages(image, table, &mut notes, allowance);
     let answer = answer::told(went, allowance);
     let Ok(left) = went else {
         return without_rows(answer);

@@ -83,7 +83,7 @@ pub fn last_stages(image: &mut [u8], table: &Table, notes: &mut [u16], allowed: 
     requires { PagesPlaced (sectors_of image.old) (listed table.now) (freed table.now) × Each (Lies image.old) (listed table.now) × NoneNoted notes.old }
     ensures { Made (last_stages (listed table.now) image.old) allowed image.old image.new result × Counted notes.new image.new result }
 {
-    if table.pages.is_empty() {
+    if table.count == 0 {
         return Ok(allowed);
     }
     let mut room = [0u16; SLOTS];

@@ -11,10 +11,10 @@ use mathlib.Core.Option.{Option, some, none}
 use Prim.Native.Nat.{ℕ, suc, max, ◌+◌, ◌-◌, ◌≤◌, ◌<◌}
 use native.Mathlib.Omega.{arith}
 use lib.Dec.{ltb}
-use lib.ListN.{length, set, take}
+use lib.ListN.{length, get_or, set, take}
 use borrow.Author.Tests.{ltb-true, ltb-false}
 use Rattle.lists.specs.Lists.{keep, some_of, first_of, greatest, replace, out_with, take_out}
-use lib.Seq.{length-take-le}
+use lib.Seq.{length-take-le, take-suc}
 use Rattle.lists.proofs.Member.{true≢false, none≢some}
 use Rattle.lists.proofs.Search.{last_append}
 use Rattle.table.specs.declared.Page.{Page}
@@ -33,6 +33,10 @@ module _ {A : Type 0} where
       let a : suc (suc (length ys)) - 1 ≡ suc (length ys) = omega arith in
       let b : length ys ≡ suc (length ys) - 1 = omega arith in
       ap (λ (n : ℕ). take n (x ∷ (y ∷ ys))) a ∙ ap {B = List A} (λ (r : List A). x ∷ r) (ap (λ (n : ℕ). take n (y ∷ ys)) b ∙ take-but_last (y ∷ ys))
+
+  -- the last of the first k, and the others
+  pub front : (xs : List A) (k : ℕ) (d : A) → k ≤ length xs → (k ≡ 0 → ⊥) → take k xs ≡ take (k - 1) xs ++ (get_or xs (k - 1) d ∷ [])
+  front xs k d room one-or-more = let q : k ≡ suc (k - 1) = omega arith in ap (λ (n : ℕ). take n xs) q ∙ take-suc xs (k - 1) d (omega arith)
 
   pub fold_max : (f : A → ℕ) (g : ℕ) (xs : List A) → fold (λ a x. max a (f x)) g xs ≡ max g (greatest f xs)
   unfolding greatest

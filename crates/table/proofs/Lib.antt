@@ -1,9 +1,11 @@
 pub mod Pages
 pub mod Scanning
 pub mod Listing
+pub mod Held
 pub mod Found
 pub mod Seeking
 pub mod Places
 pub mod Scanned
 pub mod Whole
 pub mod Greatest
+pub mod Picked

@@ -1,6 +1,6 @@
 -- Rule. Document 01, Recovery: "Page list: sectors ascending. Free list the same; the last is taken first, and an erased sector joins at the end." Assumes
 -- nothing.
-use Rattle.std.specs.Prelude.{Bool, true, false, cond, ◌&&◌, List, [], ◌∷◌, ◌++◌, ℕ, zero, suc, ◌/◌, ◌%◌, eqb, leb, ◌≡◌, length}
+use Rattle.std.specs.Prelude.{Bool, true, false, cond, ◌&&◌, List, [], ◌∷◌, ◌++◌, ℕ, zero, suc, ◌/◌, ◌%◌, eqb, leb, ◌≡◌, length, take}
 use Rattle.flash.specs.Step.{sector}
 use Rattle.page.specs.declared.state.PageState.{PageState}
 use Rattle.page.specs.declared.state.PageState.TheVariants.{Blank, Corrupt, Active, Full, Freeing}
@@ -77,10 +77,10 @@ as_full p =
 
 -- the lists that a table holds
 abbrev pub listed : Table → List Page
-listed t = t.pages.items
+listed t = take t.count t.pages
 
 abbrev pub freed : Table → List ℕ
-freed t = t.free.items
+freed t = take t.free_count t.free
 
 -- it holds the page list ps and the free list fs
 pub record Holds (t : Table) (ps : List Page) (fs : List ℕ) : Type 0 where

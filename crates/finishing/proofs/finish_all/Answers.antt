@@ -39,13 +39,13 @@ pub returns-in_err-left : goal.returns-in_err-left
 returns-in_err-left c =
     let t = c.loop.table in
     let more = rounds_more (listed t) (freed t) c.loop.image (c.args.rounds - c.loop.counter) _ (omega arith) (source (goal.at.returns-in_err-left c).In-Some) in
-    making_out c.loop.invariant.making (Finish c.in-Some.x.sector) _ more c.round.ensures.did (rw c.from.ensures at c.in_stage.ensures) c.in_err-left.was c.from_residual.ensures.1
+    making_out c.loop.invariant.making (Finish c.in-Some.x.sector) _ more c.round.ensures.made.did (rw c.from.ensures at c.in_stage.ensures) c.in_err-left.was c.from_residual.ensures.1
 
 pub loop-preserved : goal.loop-preserved
 loop-preserved c =
     let n : c.args.rounds - c.loop.counter - 1 ≡ c.args.rounds - (c.loop.counter + 1) = omega arith in
     let made = stage_on _ c.in_stage.ensures c.in_ok-left.was in
-    rw (← n) (left_more _ c.loop.invariant (omega arith) (source (goal.at.loop-preserved c).In-Some) c.round.ensures made)
+    rw (← n) (left_more _ c.loop.invariant (omega arith) (source (goal.at.loop-preserved c).In-Some) c.round.ensures.made made)
 
 pub returns : goal.returns
 returns c =

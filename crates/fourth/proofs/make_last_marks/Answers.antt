@@ -15,24 +15,24 @@ pub is_used_up-requires : goal.is_used_up-requires
 is_used_up-requires c =
     let l = c.loop-p in
     let ps = listed c.args.table.now in
-    page-fits c.args.image.now l.image c.requires l.invariant.0.size _ (in_list ps _ c.deref-p-items.ensures.0 l.p-index _ c.loop-p-test.true)
+    page-fits c.args.image.now l.image c.requires l.invariant.0.size _ (in_list ps _ c.listed-p-items.ensures l.p-index _ c.loop-p-test.true)
 
 pub mark_full-requires : goal.mark_full-requires
 mark_full-requires c =
     let l = c.loop-p in
     let ps = listed c.args.table.now in
-    rw c.from.ensures (page-fits c.args.image.now l.image c.requires l.invariant.0.size _ (in_list ps _ c.deref-p-items.ensures.0 l.p-index _ c.loop-p-test.true))
+    rw c.from.ensures (page-fits c.args.image.now l.image c.requires l.invariant.0.size _ (in_list ps _ c.listed-p-items.ensures l.p-index _ c.loop-p-test.true))
 
 pub returns-in_err-left : goal.returns-in_err-left
 returns-in_err-left c =
     let l = c.loop-p in
-    let here = marked_here c.deref-p-items.ensures.0 l.invariant.0 l.p-index _ c.loop-p-test.true c.from.result c.from.ensures (sym c.is_used_up.ensures ∙ c.if-is_used_up.true) in
+    let here = marked_here c.listed-p-items.ensures l.invariant.0 l.p-index _ c.loop-p-test.true c.from.result c.from.ensures (sym c.is_used_up.ensures ∙ c.if-is_used_up.true) in
     goes_out _ l.invariant.1 here c.mark_full.ensures c.in_err-left.was c.from_residual.ensures.0
 
 pub loop-p-preserved : goal.loop-p-preserved
 loop-p-preserved c =
     let l = c.loop-p in
-    let lent = c.deref-p-items.ensures.0 in
+    let lent = c.listed-p-items.ensures in
     elim c.if-is_used_up.branch [
       | then-is_used_up+in_ok-left w ↦
           let here = marked_here lent l.invariant.0 l.p-index _ c.loop-p-test.true w.from.result w.from.ensures (sym c.is_used_up.ensures ∙ w.if-is_used_up.true) in
@@ -43,4 +43,4 @@ loop-p-preserved c =
     ]
 
 pub returns : goal.returns
-returns c = goes_end c.loop-p.invariant.1 (marked_all c.args.image.now (listed c.args.table.now) _ c.deref-p-items.ensures.0 c.loop-p.p-index c.loop-p-test.false)
+returns c = goes_end c.loop-p.invariant.1 (marked_all c.args.image.now (listed c.args.table.now) _ c.listed-p-items.ensures c.loop-p.p-index c.loop-p-test.false)

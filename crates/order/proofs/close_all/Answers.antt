@@ -1,26 +1,28 @@
-use Rattle.std.proofs.Common.{◌∙◌, ◌++◌, ap, refl, length, get_or, set, map, rules, take_all, drop_of_length-le, append-nil}
-use mathlib.Core.Path.{ap₂}
+-- `order::close_all` meets its contract: the pages passed are closed. Assumes nothing.
+use Rattle.std.proofs.Common.{◌≡◌, ◌∙◌, ◌<◌, ap, length, length-take-le, get_or, set, take, drop, map, rules, arith}
+use lib.ListN.{length-map}
+use lib.Seq.{take_at}
 use Rattle.std.proofs.lemmas.List.Edits.{map_over_more}
-use Rattle.arrayvec.proofs.ArrayVecLemmas.{items-with_items}
 use Rattle.order.specs.Turns.{closed_page}
 use Rattle.order.proofs.close_all.Goals as goal
 
-pub loop-p-preserved : goal.loop-p-preserved
-loop-p-preserved c =
-    let ys = c.loop-p.p-items in
-    let i = c.loop-p.p-index in
-    ap (set ys i) c.close.ensures
-    ∙ map_over_more closed_page c.deref_mut-p-items.result.now ys i (get_or ys i _) c.loop-p-test.true c.loop-p.invariant (search rules)
+pub loop-i-preserved : goal.loop-i-preserved
+loop-i-preserved c =
+    let t = c.args.table.now in
+    let l = c.loop-i in
+    let room : l.i < length t.pages = omega (arith, t.sixteen, c.loop-i-test.true) in
+    let i = l.invariant in
+    (ap (set l.table.pages l.i) c.close.ensures ∙ map_over_more closed_page t.pages l.table.pages l.i (get_or l.table.pages l.i _) room i.0 (search rules), i.1, i.2, i.3)
 
 pub returns : goal.returns
 returns c =
-    let xs = c.deref_mut-p-items.result.now in
-    let ys = c.loop-p.p-items in
-    let value = c.deref_mut-p-items.ensures.value in
-    let whole = take_all c.loop-p.p-index xs c.loop-p-test.false in
-    let none = drop_of_length-le xs c.loop-p-test.false in
+    let t = c.args.table.now in
+    let l = c.loop-i in
+    let i = l.invariant in
+    let e : l.i ≡ t.count = omega (arith, c.loop-i-test.false, l.auto.i-end) in
+    let front = map closed_page (take l.i t.pages) in
+    let n : length front ≡ l.table.count = omega (arith, length-map (take l.i t.pages) closed_page, length-take-le l.i t.pages (omega (arith, e, t.sixteen)), e, i.1) in
     record {
-      list = items-with_items c.args.table.now.pages ys (c.loop-p.auto.p-items ∙ ap length value)
-          ∙ c.loop-p.invariant ∙ ap₂ (λ a b. map closed_page a ++ b) whole none ∙ append-nil _ ∙ ap (map closed_page) value;
-      free = refl;
+      list = ap (take l.table.count) i.0 ∙ take_at front (drop l.i t.pages) l.table.count n ∙ ap (λ k. map closed_page (take k t.pages)) e;
+      free = rw (i.2, i.3);
     }

@@ -1,22 +1,23 @@
--- `order::kept_page` meets its contract: the first among equals, as the list is gone through from its end. Assumes nothing.
+-- `order::kept_page` meets its contract: the first among equals. Assumes nothing.
 use Rattle.std.proofs.Common.{◌∙◌, ap, rules}
+use Rattle.std.specs.List.{reduce}
 use borrow.Author.Tests.{tests}
+use Rattle.std.proofs.lemmas.Iterator.{YieldsList-from_slice}
 use Rattle.std.proofs.lemmas.Iterator.Consumers.{YieldsList-from_filter, YieldsList-at}
-use Rattle.std.proofs.lemmas.Iterator.Adapters.{YieldsList-from_rev_slice}
-use Rattle.table.specs.Table.{sequence, active_page}
-use Rattle.table.proofs.Found.{copied_is}
-use Rattle.table.proofs.Greatest.{max_by_key_from_yields_List, first_best}
-use Rattle.order.specs.Order.{kept}
+use Rattle.lists.specs.Lists.{keep}
+use Rattle.table.specs.Table.{sequence, active_page, listed}
+use Rattle.table.proofs.Found.{copied_is, filtered}
+use Rattle.table.proofs.Picked.{pick, reduced, picked_first}
+use Rattle.order.specs.Order.{newer_page, kept}
 use Rattle.order.proofs.kept_page.Goals as goal
 
 pub returns : goal.returns
 unfolding kept
 returns c =
-    let ps = c.args.table.now.pages.items in
-    let back = YieldsList-from_rev_slice ps (ap (λ i. i.rest.now) c.rev.ensures.source ∙ c.iter.ensures.rest ∙ c.deref.ensures.0) in
+    let ps = listed c.args.table.now in
     c.copied.ensures
-    ∙ copied_is c.max_by_key.result
-    ∙ max_by_key_from_yields_List _ sequence c.max_by_key.result c.max_by_key.ensures.ran
-    (YieldsList-from_filter _ active_page (YieldsList-at c.filter.ensures.source back) c.filter.ensures.closure (λ x b q k. search (rules, tests)))
-    (λ x r q k. search (rules, tests))
-    ∙ first_best sequence active_page ps
+    ∙ copied_is c.reduce.result
+    ∙ reduced _ _ (pick newer_page) _ (λ x y r q k. search (rules, tests)) c.reduce.result c.reduce.ensures.ran
+    (YieldsList-from_filter _ active_page (YieldsList-at c.filter.ensures.source (YieldsList-from_slice ps (c.iter.ensures.rest ∙ c.listed.ensures))) c.filter.ensures.closure (λ x b q k. search (rules, tests)))
+    ∙ ap (reduce (pick newer_page)) (filtered active_page ps)
+    ∙ picked_first sequence (keep active_page ps)

@@ -16,17 +16,17 @@ loop-p-init c = (refl, goes_start _ _ _)
 pub mark_full-requires : goal.mark_full-requires
 mark_full-requires c =
     let ps = listed c.args.table.now in
-    rw c.from.ensures (page-fits c.args.image.now c.loop-p.image c.requires c.loop-p.invariant.0 _ (in_list ps _ c.deref-p-items.ensures.0 c.loop-p.p-index _ c.loop-p-test.true))
+    rw c.from.ensures (page-fits c.args.image.now c.loop-p.image c.requires c.loop-p.invariant.0 _ (in_list ps _ c.listed-p-items.ensures c.loop-p.p-index _ c.loop-p-test.true))
 
 pub returns-in_err-left : goal.returns-in_err-left
 returns-in_err-left c =
-    let here = element (listed c.args.table.now) _ c.deref-p-items.ensures.0 c.loop-p.p-index _ c.loop-p-test.true in
+    let here = element (listed c.args.table.now) _ c.listed-p-items.ensures c.loop-p.p-index _ c.loop-p-test.true in
     goes_out _ c.loop-p.invariant.1 (ap full_marks here ∙ marks-active _ _ (sym c.is_active.ensures ∙ c.if-is_active.true))
     (rw c.from.ensures at c.mark_full.ensures) c.in_err-left.was c.from_residual.ensures.0
 
 pub loop-p-preserved : goal.loop-p-preserved
 loop-p-preserved c =
-    let here = ap full_marks (element (listed c.args.table.now) _ c.deref-p-items.ensures.0 c.loop-p.p-index _ c.loop-p-test.true) in
+    let here = ap full_marks (element (listed c.args.table.now) _ c.listed-p-items.ensures c.loop-p.p-index _ c.loop-p-test.true) in
     elim c.if-is_active.branch [
       | then-is_active+in_ok-left w ↦ rw (w.image-is, w.left-is) (
         w.mark_full.auto.image ∙ c.loop-p.invariant.0,
@@ -40,4 +40,4 @@ loop-p-preserved c =
 
 pub returns : goal.returns
 unfolding full_marks keep
-returns c = goes_end c.loop-p.invariant.1 (ap full_marks (listed_end (listed c.args.table.now) _ c.deref-p-items.ensures.0 c.loop-p.p-index c.loop-p-test.false))
+returns c = goes_end c.loop-p.invariant.1 (ap full_marks (listed_end (listed c.args.table.now) _ c.listed-p-items.ensures c.loop-p.p-index c.loop-p-test.false))

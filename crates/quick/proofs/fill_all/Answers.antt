@@ -19,12 +19,12 @@ loop-p-init c =
 pub gather_page-k-requires : goal.gather_page-k-requires
 gather_page-k-requires c =
     let l = c.loop-p in
-    (page_lies c.args.image.now (listed c.args.table.now) _ c.requires.0 c.deref-p-items.ensures.0 l.p-index _ c.loop-p-test.true, omega (arith, l.invariant.0), l.invariant.3)
+    (page_lies c.args.image.now (listed c.args.table.now) _ c.requires.0 c.listed-p-items.ensures l.p-index _ c.loop-p-test.true, omega (arith, l.invariant.0), l.invariant.3)
 
 pub fill-requires : goal.fill-requires
 fill-requires c =
     let l = c.loop-p in
-    let lies = page_lies c.args.image.now (listed c.args.table.now) _ c.requires.0 c.deref-p-items.ensures.0 l.p-index _ c.loop-p-test.true in
+    let lies = page_lies c.args.image.now (listed c.args.table.now) _ c.requires.0 c.listed-p-items.ensures l.p-index _ c.loop-p-test.true in
     (rw c.gather_page-k.ensures.0 (page_placed c.args.image.now _ lies), l.invariant.1)
 
 pub returns-then-not-fill : goal.returns-then-not-fill
@@ -33,7 +33,7 @@ returns-then-not-fill c =
     let ps = listed c.args.table.now in
     let image = c.args.image.now in
     let stops = rw c.gather_page-k.ensures.0 at (c.fill.ensures.1 c.if-not-fill.true) in
-    let rest = element ps _ c.deref-p-items.ensures.0 l.p-index _ c.loop-p-test.true in (
+    let rest = element ps _ c.listed-p-items.ensures l.p-index _ c.loop-p-test.true in (
       λ e. absurd (true≢false e refl),
       λ e. page-stopped image _ l.slots _ (drop (l.p-index + 1) ps) (map place_of (found ps image)) stops (rw rest at l.invariant.2),
       c.gather_page-k.ensures.2,
@@ -45,7 +45,7 @@ loop-p-preserved c =
     let ps = listed c.args.table.now in
     let image = c.args.image.now in
     let filled = rw c.gather_page-k.ensures.0 at (c.fill.ensures.0 c.if-not-fill.false) in
-    let rest = element ps _ c.deref-p-items.ensures.0 l.p-index _ c.loop-p-test.true in (
+    let rest = element ps _ c.listed-p-items.ensures l.p-index _ c.loop-p-test.true in (
       c.gather_page-k.auto.out ∙ l.invariant.0,
       filled.leads,
       page-filled image _ l.slots _ (drop (l.p-index + 1) ps) (map place_of (found ps image)) filled (rw rest at l.invariant.2),
@@ -56,5 +56,5 @@ pub returns : goal.returns
 unfolding found flat_map
 returns c =
     let l = c.loop-p in
-    let s = rw (listed_end (listed c.args.table.now) _ c.deref-p-items.ensures.0 l.p-index c.loop-p-test.false) at l.invariant.2 in
+    let s = rw (listed_end (listed c.args.table.now) _ c.listed-p-items.ensures l.p-index c.loop-p-test.false) at l.invariant.2 in
     (λ e. (l.invariant.1, rw (sym s.2 ∙ append-nil s.0) s.1), λ e. absurd (true≢false refl e), l.invariant.3)

@@ -4,6 +4,8 @@ use Prim.Native.Nat.{ℕ, ◌<◌}
 use mathlib.Core.List.{List, map}
 use native.Mathlib.Omega.{arith}
 use lib.ListN.{get_or}
+use borrow.Author.Rules.{rules}
+use borrow.Author.Tests.{tests}
 use Rattle.lists.proofs.Member.{true≢false}
 use Rattle.table.specs.Table.{listed}
 use Rattle.found.specs.Found.{found}
@@ -30,9 +32,10 @@ returns-then-fill_all c =
     let image = c.args.image.now in
     let pages = listed c.args.table.now in
     let small : (j : ℕ) → get_or image j 0 < 256 = λ j. omega (arith, c.type_inv.image j) in
-    let named = (c.fill_all.ensures.0 c.if-fill_all.true).1 in (
-      λ e. rw (items_found image pages c.requires.0) at (calm-items _ image (places image pages) small named (sym c.all_fit.ensures ∙ e)),
-      λ e C. absurd (true≢false (passes _ image (places image pages) (small_items image small) named (calm-places image pages c.requires.0 C)) (sym c.all_fit.ensures ∙ e)),
+    let named = (c.fill_all.ensures.0 c.if-fill_all.true).1 in
+    let fit = c.all_fit.ensures in (
+      λ e. rw (items_found image pages c.requires.0) at (calm-items _ image (places image pages) small named (sym fit ∙ search (rules, tests))),
+      λ e C. absurd (true≢false (passes _ image (places image pages) (small_items image small) named (calm-places image pages c.requires.0 C)) (sym fit ∙ search (rules, tests))),
       c.fill_all.ensures.2,
     )
 

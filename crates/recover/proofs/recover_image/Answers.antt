@@ -3,12 +3,11 @@ use Rattle.std.specs.Prelude.{Ok}
 use mathlib.Core.Path.{◌≡◌, sym, ap, ◌∙◌}
 use mathlib.Core.Bool.{true, false}
 use Prim.Native.Nat.{◌≤◌}
+use native.Mathlib.Omega.{arith}
 use Rattle.stages.specs.Stages.{too_high}
 use Rattle.table.specs.Table.{sectors_of, whole_sectors, pages, frees, Holds}
 use Rattle.table.proofs.Whole.{whole_is}
-use lib.ListN.{length}
-use Rattle.page.specs.Record.{seen_of}
-use Rattle.records.proofs.Reading.{length-each}
+use Rattle.records.specs.declared.scanned.Scanned.{Scanned}
 use Rattle.records.specs.Scanned.{scanned_of}
 use Rattle.records.specs.Records.{rows_of}
 use Rattle.recover.proofs.Promised.{refused-sectors, refused-records, refused-sequences, stopped_short, ended-rows, seen_idle, none_walked, made_size}
@@ -64,16 +63,17 @@ pub see_again-last-requires : goal.see_again-last-requires
 see_again-last-requires c =
     let w = whole_is c.args.image.now (scan_is (goal.at.see_again-last-requires c).After-list_seen-table).0 in
     let made = c.make_stages-went.ensures.0 in
-    let count = ap (λ x. length x.items) c.see_all-scanned.ensures ∙ length-each seen_of c.args.image.now (sectors_of c.args.image.now) in
+    let count : c.see_all-scanned.result.count ≡ sectors_of c.args.image.now = omega (arith, ap (λ (x : Scanned). x.count) c.see_all-scanned.ensures, w.1) in
     (rw count (made_size made ∙ w.0), λ e. c.see_all-scanned.ensures ∙ seen_idle made (c.in-Ok.is ∙ ap Ok e) (sectors_of c.args.image.now) ∙ ap (scanned_of _) (sym count))
 
 -- as many sectors as the image has were seen
 as_many : (c : After-see_again-last) →
-    (length c.see_again-last.result.items ≡ length c.see_all-scanned.result.items) × (length c.see_all-scanned.result.items ≡ sectors_of c.args.image.now)
+    (c.see_again-last.result.count ≡ c.see_all-scanned.result.count) × (c.see_all-scanned.result.count ≡ sectors_of c.args.image.now)
 as_many c =
-    let seen = length c.see_all-scanned.result.items in
-    let l = c.args.image.now in
-    (ap (λ x. length x.items) c.see_again-last.ensures ∙ length-each seen_of _ seen, ap (λ x. length x.items) c.see_all-scanned.ensures ∙ length-each seen_of l (sectors_of l))
+    let few = (whole_is c.args.image.now (sym c.is_whole.ensures ∙ c.if-not-is_whole.false)).1 in
+    let first = ap (λ (x : Scanned). x.count) c.see_all-scanned.ensures in
+    let again = ap (λ (x : Scanned). x.count) c.see_again-last.ensures in
+    (omega (arith, again, c.see_all-scanned.result.sixteen), omega (arith, first, few))
 
 pub make_rows-rows-requires : goal.make_rows-rows-requires
 make_rows-rows-requires c =

@@ -3,16 +3,16 @@
 use Rattle.table.specs.Table.{listed}
 use Rattle.repair.proofs.Repairing.{calm-stages, no-page-stages}
 use Rattle.repair.proofs.Counting.{none_counted, marks-counted}
-use Rattle.std.proofs.Common.{◌∙◌, sym, length}
-use borrow.Author.Tests.{eqb-true}
+use Rattle.std.proofs.Common.{arith}
+use lib.ListN.{length-take}
 use borrow.Author.Rules.{rules}
 use Rattle.repair.proofs.last_stages.Goals as goal
 
-pub returns-then-is_empty : goal.returns-then-is_empty
-returns-then-is_empty c =
+pub returns-then-table-eq0 : goal.returns-then-table-eq0
+returns-then-table-eq0 c =
     let a = c.args in
     let ps = listed a.table.now in
-    (no-page-stages ps a.allowed a.image.now (eqb-true (length ps) 0 (sym c.is_empty.ensures ∙ c.if-is_empty.true)), none_counted a.image.now _ c.requires.2)
+    (no-page-stages ps a.allowed a.image.now (omega (arith, length-take a.table.now.count a.table.now.pages, c.if-table-eq0.true)), none_counted a.image.now _ c.requires.2)
 
 pub is_calm-requires : goal.is_calm-requires
 is_calm-requires c = let room = c.requires.2.room in search rules

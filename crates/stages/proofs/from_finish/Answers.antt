@@ -7,12 +7,12 @@ use Rattle.stages.proofs.from_finish.Goals as goal
 
 pub returns-in_err-left : goal.returns-in_err-left
 returns-in_err-left c =
-    let t = c.args.table.now in
+    let t = c.args.table in
     let out = c.from_residual.ensures.1 in
     (finish-stop (listed t) (freed t) c.requires.1 c.finish_all.ensures c.in_err-left.was out, stop-counted _ (went_out out))
 
 pub returns : goal.returns
 returns c =
-    let t = c.args.table.now in
+    let t = c.args.table in
     let after = c.from_order.ensures in
     (finish_on_lem (listed t) (freed t) c.requires.1 c.finish_all.ensures c.in_ok-left.was after.0, after.1)

@@ -32,14 +32,14 @@ pub returns-in_default : goal.returns-in_default
 unfolding afresh
 returns-in_default c =
     let fs = freed c.args.table.now in
-    let q : get_last? fs ≡ none = last-none fs (at_end fs _ c.deref.ensures.0 (c.copied.ensures ∙ c.last.ensures.value) ∙ c.in_default.is) in
+    let q : get_last? fs ≡ none = last-none fs (at_end fs _ c.freed.ensures (c.copied.ensures ∙ c.last.ensures.value) ∙ c.in_default.is) in
     rw q (record { did = did_none _ _; table = λ k e. rw c.as_full.ensures at c.prepend_page.ensures })
 
 -- the target is the last free sector
 last : (c : In-Some) → get_last? (freed c.args.table.now) ≡ some c.in-Some.target
 last c =
     let fs = freed c.args.table.now in
-    last_found fs _ (at_end fs _ c.deref.ensures.0 (c.copied.ensures ∙ c.last.ensures.value) ∙ c.in-Some.is)
+    last_found fs _ (at_end fs _ c.freed.ensures (c.copied.ensures ∙ c.last.ensures.value) ∙ c.in-Some.is)
 
 free : (c : In-Some) → c.in-Some.target ∈ freed c.args.table.now
 free c = last_in (freed c.args.table.now) c.in-Some.target (last c)

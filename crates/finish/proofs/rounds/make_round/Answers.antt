@@ -1,4 +1,4 @@
--- `finish::round` meets its contract: the source is taken out, and whether a page is Active decides. Assumes nothing.
+-- `finish::make_round` meets its contract: the source is taken out, and whether a page is Active decides. Assumes nothing.
 use mathlib.Core.Path.{◌≡◌, sym, ap, ◌∙◌}
 use mathlib.Core.Option.{none, some}
 use Rattle.page.specs.declared.state.PageState.TheVariants.{Active}
@@ -10,8 +10,8 @@ use Rattle.table.proofs.Seeking.{first_member, first_same, active_is, sought_fou
 use Rattle.table.proofs.Places.{apart_placed}
 use Rattle.finish.specs.Finish.{round}
 use Rattle.finish.proofs.Makes.{next-below}
-use Rattle.finish.proofs.rounds.round.Goals as goal
-use Rattle.finish.proofs.rounds.round.Goals.{Start}
+use Rattle.finish.proofs.rounds.make_round.Goals as goal
+use Rattle.finish.proofs.rounds.make_round.Goals.{Start}
 
 -- the source is listed
 source_in : (c : Start) → c.args.x ∈ listed c.args.table.now
