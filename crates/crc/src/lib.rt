@@ -3,11 +3,15 @@
 // The table is a static: a constant array that is indexed where it stands is stored to the stack at every use.
 #![tactic(auto)]
 
-ghost use Rattle.std.specs.Prelude.{◌≡◌, ◌*◌, ◌≤◌, length, take};
+ghost use Rattle.std.specs.Prelude.{◌≡◌, ◌+◌, ◌*◌, ◌≤◌, length, take};
+ghost use Rattle.word.specs.Number.{part};
 ghost use Rattle.crc.specs.Crc.{crc_bits, crc_from, crc_of, complement};
+ghost use Rattle.crc.specs.Table.{crc_table};
 
 // Five parts of 64 numbers and one of four: a part for each six bits of a register.
-static TABLE: [u32; 324] = [
+pub type CrcTable = [u32; 324];
+
+static TABLE: CrcTable = [
     0x00000000, 0xB8BC6765, 0xAA09C88B, 0x12B5AFEE, 0x8F629757, 0x37DEF032, 0x256B5FDC, 0x9DD738B9,
     0xC5B428EF, 0x7D084F8A, 0x6FBDE064, 0xD7018701, 0x4AD6BFB8, 0xF26AD8DD, 0xE0DF7733, 0x58631056,
     0x5019579F, 0xE8A530FA, 0xFA109F14, 0x42ACF871, 0xDF7BC0C8, 0x67C7A7AD, 0x75720843, 0xCDCE6F26,
@@ -51,6 +55,13 @@ static TABLE: [u32; 324] = [
     0x00000000, 0x76DC4190, 0xEDB88320, 0x9B64C2B0,
 ];
 
+// The table, for a caller that wants it whole; no function asks for it.
+pub fn table() -> CrcTable
+    ensures { result ≡ crc_table }
+{
+    TABLE
+}
+
 // Thirty-two bits of a register: six by six, each through its own part of the table.
 fn four_bytes(x: u32) -> u32
     ensures { result ≡ crc_bits 32 x }
@@ -76,7 +87,7 @@ fn one_byte(x: u32) -> u32
 }
 
 // The register after the first `n` words of `s`, begun at `from`.
-fn words(from: u32, s: &[u8], n: usize) -> u32
+fn first_words(from: u32, s: &[u8], n: usize) -> u32
     requires { 4 * n ≤ length s.now }
     ensures { result ≡ crc_from from (take (4 * n) s.now) }
 {
@@ -92,11 +103,19 @@ pub fn run(from: u32, s: &[u8]) -> u32
     ensures { result ≡ crc_from from s.now }
 {
     let n = s.len() / 4;
-    let mut r = words(from, s, n);
+    let mut r = first_words(from, s, n);
     for b in &s[4 * n..] {
         r = one_byte(r ^ u32::from(*b));
     }
     r
+}
+
+// The register after `n` words of `s` from `at` on, begun at `from`.
+pub fn words(from: u32, s: &[u8], at: usize, n: usize) -> u32
+    requires { at + 4 * n ≤ length s.now }
+    ensures { result ≡ crc_from from (part s.now at (4 * n)) }
+{
+    run(from, &s[at..at + 4 * n])
 }
 
 // The CRC that a register stands for.

@@ -1,7 +1,7 @@
 -- An entry's CRC is one run over bytes 0 to 3 and then 8 to 31. Assumes nothing.
-use mathlib.Core.Path.{◌≡◌, ap, ap₂, ◌∙◌}
+use mathlib.Core.Path.{◌≡◌, sym, ap, ap₂, ◌∙◌}
 use mathlib.Core.List.{List, ◌++◌}
-use Prim.Native.Nat.{ℕ, ◌+◌, ◌≤◌}
+use Prim.Native.Nat.{ℕ, ◌+◌, ◌-◌, ◌≤◌}
 use native.Mathlib.Omega.{arith}
 use lib.ListN.{length, take, drop, length-drop}
 use lib.Seq.{take-take, take-add, drop_at, drop-drop, length-take-le}
@@ -24,3 +24,10 @@ module _ (s : List ℕ) (at : ℕ) (fits : at + 32 ≤ length s) where
   pub two_pieces : entry_crc (part s at 32) ≡ complement (crc_from (crc_from 0 (part s at 4)) (part s (at + 8) 24))
   unfolding entry_crc crc_of
   two_pieces = ap complement (ap₂ (λ (a b : List ℕ). crc_from 0 (a ++ b)) low high ∙ from_append 0 (part s at 4) (part s (at + 8) 24))
+
+  -- the same, of two ranges whose ends are those
+  pub two_ranges : {i j k n : ℕ} → i ≡ at → j ≡ at + 4 → k ≡ at + 8 → n ≡ at + 32 → complement (crc_from (crc_from 0 (take (j - i) (drop i s))) (take (n - k) (drop k s))) ≡ entry_crc (part s at 32)
+  two_ranges e f g h =
+      let a : at + 4 - at ≡ 4 = omega arith in
+      let b : at + 32 - (at + 8) ≡ 24 = omega arith in
+      rw (e, f, g, h, a, b) (sym two_pieces)

@@ -1,7 +1,7 @@
 // What the 32 bytes of an entry say, where they stand at `at` of a sector or an image.
-ghost use Rattle.std.specs.Prelude.{◌≡◌, ◌+◌, ◌<◌, ◌≤◌, length, get_or};
+ghost use Rattle.std.specs.Prelude.{◌≡◌, ◌+◌, ◌<◌, ◌≤◌, length, get_or, eqb, ltb};
 ghost use Rattle.word.specs.Number.{part};
-ghost use Rattle.entry.specs.Fields.{entry_crc, key_of, chunk_size, index_size, index_count, index_start, start_of};
+ghost use Rattle.entry.specs.Fields.{entry_crc, key_of, key_number, chunk_size, index_size, index_count, index_start, start_of};
 
 // The sixteen bytes of a key as two numbers, first byte highest, so that keys are compared as numbers are.
 #[derive(Clone, Copy, PartialEq, Eq, PartialOrd, Ord)]
@@ -27,6 +27,19 @@ pub fn key_at(s: &[u8], at: usize) -> Key
         high: word::be64(s, at + 8),
         low: word::be64(s, at + 16),
     }
+}
+
+// `a < b` and `a == b`, with what they answer as a promise: the laws of the two ask that both keys' halves fit.
+pub fn key_less(a: Key, b: Key) -> bool
+    ensures { result ≡ ltb (key_number a) (key_number b) }
+{
+    a < b
+}
+
+pub fn key_same(a: Key, b: Key) -> bool
+    ensures { result ≡ eqb (key_number a) (key_number b) }
+{
+    a == b
 }
 
 // A chunk's size.

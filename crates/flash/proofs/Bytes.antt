@@ -5,7 +5,8 @@ use mathlib.Core.List.{List}
 use Prim.Native.Nat.{ℕ, zero, suc, ◌+◌, ◌≤◌, ◌<◌}
 use native.Mathlib.Nat.{add-zero}
 use native.Mathlib.Omega.{arith}
-use lib.ListN.{length, get_or, length-set}
+use Rattle.std.proofs.Common.{add-one}
+use lib.ListN.{length, get_or, set, length-set}
 use lib.Seq.{get_or-set_other, get_or-set_same}
 use Rattle.flash.specs.Step.{put, and_word, and8}
 
@@ -25,6 +26,11 @@ put_same_at l i b h = get_or-set_same l i _ 0 h
 abbrev pub puts : List ℕ → ℕ → List ℕ → ℕ → List ℕ
 puts l at w zero = l
 puts l at w (suc k) = put (puts l at w k) (at + k) (get_or w k 0)
+
+-- one more of them: byte k becomes the AND of the two
+pub puts_more : (l : List ℕ) (at : ℕ) (w : List ℕ) (k : ℕ) (m : List ℕ) (b : ℕ) → m ≡ puts l at w k → b ≡ and8 (get_or m (at + k) 0) (get_or w k 0) → set m (at + k) b ≡ puts l at w (k + 1)
+unfolding put
+puts_more l at w k m b e f = rw (f, add-one k, e)
 
 -- all four of them
 pub puts_word : (l : List ℕ) (at : ℕ) (w : List ℕ) (k : ℕ) → k ≡ 4 → puts l at w k ≡ and_word l at (get_or w 0 0) (get_or w 1 0) (get_or w 2 0) (get_or w 3 0)

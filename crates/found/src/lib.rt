@@ -10,4 +10,4 @@ pub use items::{
     group_at, is_chunk, is_index, is_newer, is_part, namespace_at, number_at, span_at, start_at,
     version_at,
 };
-pub use ranks::{Rank, rank_same};
+pub use ranks::{Rank, rank_less, rank_same};

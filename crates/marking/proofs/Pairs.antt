@@ -44,7 +44,7 @@ unfolding mask_of
 mask-not d e b h = rw (ne_eqb b (e / 4) h)
 
 -- ones in 32 bits, less d in pair r
-abbrev word_less : ℕ → ℕ → ℕ
+abbrev pub word_less : ℕ → ℕ → ℕ
 word_less d r = 4294967295 - d * 2 ^ (2 * r) % 4294967296
 
 abbrev byte_right : ℕ → ℕ → ℕ → Bool

@@ -55,14 +55,15 @@ fn next_item(s: &[u8], from: usize, unread: u8) -> Read
 {
     let mut passed: u8 = 0;
     for i in from..PAGE_ENTRIES {
-        if let Some(item) = page::read_entry(s, i) {
-            return Read {
-                handed: Handed::Item(item),
-                next: i + item.span,
-                unread: counted_on(unread, passed),
-            };
-        }
-        passed += page::one_written(s, i);
+        let Some(item) = page::read_entry(s, i) else {
+            passed += page::one_written(s, i);
+            continue;
+        };
+        return Read {
+            handed: Handed::Item(item),
+            next: i + item.span,
+            unread: counted_on(unread, passed),
+        };
     }
     let counted = counted_on(unread, passed);
     Read {

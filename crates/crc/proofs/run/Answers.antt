@@ -12,7 +12,7 @@ pub loop-b-init : goal.loop-b-init
 loop-b-init c =
     let s = c.args.s.now in
     let m = 4 * (length s / 4) in
-    ap (crc_from c.words-r.result) (take_all (length s - m) (drop m s) (omega (arith, length-drop m s))) ∙ rw c.words-r.ensures (words_first s m c.args.from)
+    ap (crc_from c.first_words-r.result) (take_all (length s - m) (drop m s) (omega (arith, length-drop m s))) ∙ rw c.first_words-r.ensures (words_first s m c.args.from)
 
 pub loop-b-preserved : goal.loop-b-preserved
 loop-b-preserved c =

@@ -43,12 +43,12 @@ loop-i-preserved c =
 pub overflow_add-result : goal.overflow_add-result
 overflow_add-result c = let e = told (goal.at.overflow_add-result c).In-Some in omega arith
 
-pub returns-in-Some : goal.returns-in-Some
-returns-in-Some c =
+pub returns-in-loop-i : goal.returns-in-loop-i
+returns-in-loop-i c =
     let a = c.args in
     let s = a.s.now in
     let i = c.loop-i.i in
-    let e = told (goal.at.returns-in-Some c).In-Some in
+    let e = told (goal.at.returns-in-loop-i c).In-Some in
     let zero = passed_item s i e.0 in
     let all : c.loop-i.passed ≡ passed_from s 126 a.from = omega arith in
     let counted = c.counted_on.ensures ∙ ap (counted_on a.unread) all in

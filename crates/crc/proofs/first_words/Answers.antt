@@ -1,11 +1,11 @@
--- `crc::words` meets its contract: the register, taken through the words that are left, is the whole run's. Assumes nothing.
+-- `crc::first_words` meets its contract: the register, taken through the words that are left, is the whole run's. Assumes nothing.
 use Rattle.crc.specs.Crc.{crc_from}
 use Rattle.crc.proofs.Slicing.{piece-turn, piece_end}
 use mathlib.Core.Path.{sym, ap, ◌∙◌}
 use Prim.Native.Nat.{ℕ, ◌<◌}
 use native.Mathlib.Omega.{arith}
 use lib.ListN.{get_or}
-use Rattle.crc.proofs.words.Goals as goal
+use Rattle.crc.proofs.first_words.Goals as goal
 
 pub loop-k-preserved : goal.loop-k-preserved
 loop-k-preserved c =
