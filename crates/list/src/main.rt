@@ -24,11 +24,26 @@ fn read_full<R: Read>(from: &mut R, buf: &mut [u8]) -> usize
     done
 }
 
-// An image of more than 16 sectors is refused whatever its bytes are: 17 sectors of it stand for all. The rest is read for its length alone.
+// How many bytes the input has, of which `got` were read: the rest is read for its length alone. Nothing says that the input ends, and a proved loop has to: it
+// counts up to a number of reads, so an input without an end is listed too. (The library's `copy` would read on for ever.)
+fn size_of<R: Read>(from: &mut R, got: usize) -> io::Result<u64> {
+    let mut chunk = [0u8; SECTOR_BYTES];
+    let mut bytes = got as u64;
+    for _ in 0..u32::MAX {
+        let n = from.read(&mut chunk)?;
+        if n == 0 {
+            return Ok(bytes);
+        }
+        bytes = bytes.saturating_add(n as u64);
+    }
+    Ok(bytes)
+}
+
+// An image of more than 16 sectors is refused whatever its bytes are: 17 sectors of it stand for all.
 fn list<R: Read>(rt: &impl Print, from: &mut R) -> io::Result<()> {
     let mut image = [0u8; (MOST_SECTORS + 1) * SECTOR_BYTES];
     let got = read_full(from, &mut image);
-    let bytes = io::copy(from, &mut io::sink())?.saturating_add(got as u64);
+    let bytes = size_of(from, got)?;
     let mut out = [0u8; 2048];
     let n = listing::list_image(&mut image[..got], bytes, &mut out);
     let _ = rt.write_all(&out[..n]);
