@@ -8,8 +8,9 @@ ghost use Rattle.std.specs.Prelude.{◌≡◌, ◌+◌, ◌*◌, ◌<◌, ◌≤
 ghost use Rattle.flash.specs.Step.{sector};
 ghost use Rattle.page.specs.State.{state_of};
 ghost use Rattle.page.specs.Unread.{unread_of};
-ghost use Rattle.records.specs.Records.{filled, blank_record, no_rows, rows_of};
-ghost use Rattle.records.specs.Scanned.{scanned_of};
+ghost use Rattle.page.specs.Record.{seen_of};
+ghost use Rattle.records.specs.Records.{each_to, filled, blank_record, no_rows, rows_of};
+ghost use Rattle.records.specs.Scanned.{listed};
 ghost use Rattle.records.specs.Notes.{Noted};
 
 use layout::{MOST_SECTORS, SECTOR_BYTES};
@@ -56,9 +57,9 @@ fn unread_in(image: &[u8], n: usize, state: PageState, notes: &[u16]) -> u8
     page::unread_of(&image[a..e])
 }
 
-// The record of each sector that was scanned, in sector order.
+// The record of each sector that was scanned, in sector order. What stands in the scan past its sectors counts for nothing.
 pub fn make_rows(image: &[u8], scanned: &Scanned, notes: &[u16]) -> Rows
-    requires { (length image.now ≡ scanned.now.count * 4096) × (scanned.now ≡ scanned_of image.now scanned.now.count) × Noted notes.now image.now }
+    requires { (length image.now ≡ scanned.now.count * 4096) × (listed scanned.now ≡ each_to seen_of image.now scanned.now.count) × Noted notes.now image.now }
     ensures { result ≡ rows_of image.now scanned.now.count }
 {
     let mut rows = [blank_record(); MOST_SECTORS];

@@ -14,6 +14,9 @@ use page::PageRecord;
 use records::{Rows, Scanned};
 use table::Table;
 
+#[cfg(test)]
+mod tests;
+
 // The answer, and the rows to store: none where the call is refused or stopped.
 #[derive(Clone, Copy)]
 pub struct Recovered {

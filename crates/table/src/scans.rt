@@ -1,6 +1,8 @@
 // The scan: what the table is made of.
 ghost use Rattle.std.specs.Prelude.{◌≡◌, List, ℕ, ◌*◌, ◌≤◌, length};
-ghost use Rattle.records.specs.Scanned.{scanned_of};
+ghost use Rattle.page.specs.Record.{seen_of};
+ghost use Rattle.records.specs.Records.{each_to};
+ghost use Rattle.records.specs.Scanned.{scanned_of, listed};
 ghost use Rattle.table.specs.Table.{sectors_of, whole_sectors, pages, frees, Holds};
 
 use crate::{Page, Table};
@@ -16,9 +18,10 @@ pub fn is_whole(image: &[u8]) -> bool
     image.len() % SECTOR_BYTES == 0 && 2 <= sectors && sectors <= MOST_SECTORS
 }
 
-// The lists of the sectors that were seen, whatever image they are of.
+// The lists of the sectors that were seen, whatever image they are of. What stands in the scan past its sectors counts for nothing.
 pub fn list_seen(scanned: &Scanned) -> Table
-    ensures { (l : List ℕ) → scanned.now ≡ scanned_of l (sectors_of l) → Holds result (pages l) (frees l) }
+    ensures whole { (l : List ℕ) → scanned.now ≡ scanned_of l (sectors_of l) → Holds result (pages l) (frees l) }
+    ensures seen { (l : List ℕ) → listed scanned.now ≡ each_to seen_of l (sectors_of l) → Holds result (pages l) (frees l) }
 {
     let mut table = Table {
         pages: [Page::default(); MOST_SECTORS],

@@ -8,8 +8,10 @@ use Rattle.stages.specs.Stages.{too_high}
 use Rattle.table.specs.Table.{sectors_of, whole_sectors, pages, frees, Holds}
 use Rattle.table.proofs.Whole.{whole_is}
 use Rattle.records.specs.declared.scanned.Scanned.{Scanned}
-use Rattle.records.specs.Scanned.{scanned_of}
-use Rattle.records.specs.Records.{rows_of}
+use Rattle.page.specs.Record.{seen_of}
+use Rattle.records.specs.Scanned.{scanned_of, listed}
+use Rattle.records.specs.Records.{each_to, rows_of}
+use Rattle.records.proofs.Lent.{scanned-listed}
 use Rattle.recover.proofs.Promised.{refused-sectors, refused-records, refused-sequences, stopped_short, ended-rows, seen_idle, none_walked, made_size}
 use Rattle.recover.proofs.recover_image.Goals as goal
 use Rattle.recover.proofs.recover_image.Goals.{After-list_seen-table, After-see_again-last, Else-is_too_high}
@@ -31,7 +33,7 @@ see_all-scanned-requires c =
 scan_is : (c : After-list_seen-table) →
     (whole_sectors c.args.image.now ≡ true) × (sectors_of c.args.image.now ≤ c.args.lent) × Holds c.list_seen-table.result (pages c.args.image.now) (frees c.args.image.now)
 scan_is c =
-    ((sym c.is_whole.ensures ∙ c.if-not-is_whole.false), c.if-lent-sectors.false, c.list_seen-table.ensures c.args.image.now c.see_all-scanned.ensures)
+    ((sym c.is_whole.ensures ∙ c.if-not-is_whole.false), c.if-lent-sectors.false, c.list_seen-table.ensures.whole c.args.image.now c.see_all-scanned.ensures)
 
 pub returns-then-is_too_high : goal.returns-then-is_too_high
 returns-then-is_too_high c =
@@ -44,7 +46,7 @@ low : (c : Else-is_too_high) →
     too_high (pages c.args.image.now) ≡ false
 low c =
     let scan_is : (whole_sectors c.args.image.now ≡ true) × (sectors_of c.args.image.now ≤ c.args.lent) × Holds c.list_seen-table.result (pages c.args.image.now) (frees c.args.image.now) =
-    ((sym c.is_whole.ensures ∙ c.if-not-is_whole.false), c.if-lent-sectors.false, c.list_seen-table.ensures c.args.image.now c.see_all-scanned.ensures)
+    ((sym c.is_whole.ensures ∙ c.if-not-is_whole.false), c.if-lent-sectors.false, c.list_seen-table.ensures.whole c.args.image.now c.see_all-scanned.ensures)
     in
     ap too_high (sym (scan_is).2.list) ∙ sym c.is_too_high.ensures ∙ c.if-is_too_high.false
 
@@ -80,7 +82,8 @@ make_rows-rows-requires c =
     let w = whole_is c.args.image.now (scan_is (goal.at.make_rows-rows-requires c).After-list_seen-table).0 in
     let made = c.make_stages-went.ensures in
     let n = as_many (goal.at.make_rows-rows-requires c).After-see_again-last in
-    (rw (n.0 ∙ n.1) (made_size made.0 ∙ w.0), c.see_again-last.ensures ∙ ap (scanned_of _) (sym n.0), made.1 _ c.in-Ok.is)
+    let seen = ap listed c.see_again-last.ensures ∙ scanned-listed _ _ c.see_all-scanned.result.sixteen in
+    (rw (n.0 ∙ n.1) (made_size made.0 ∙ w.0), seen ∙ ap (each_to seen_of _) (sym n.0), made.1 _ c.in-Ok.is)
 
 pub returns : goal.returns
 returns c =

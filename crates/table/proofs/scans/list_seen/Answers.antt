@@ -7,7 +7,7 @@ use Rattle.page.specs.State.{state_of, is_free}
 use Rattle.page.specs.declared.seen.Seen.{Seen}
 use Rattle.page.specs.Record.{seen_of}
 use Rattle.records.specs.Records.{each_to}
-use Rattle.records.specs.Scanned.{scanned_of}
+use Rattle.records.specs.Scanned.{listed as listed_seen}
 use Rattle.records.proofs.Reading.{length-each}
 use Rattle.records.proofs.Lent.{lent_seen}
 use Rattle.table.specs.Table.{sectors_of, pages_to, frees_to, pages, frees, listed, freed}
@@ -33,7 +33,7 @@ pub loop-n-preserved : goal.loop-n-preserved
 loop-n-preserved c =
     let n = c.loop-n.n in
     let i = c.loop-n.invariant in
-    let lent : (l : List ℕ) → c.args.scanned.now ≡ scanned_of l (sectors_of l) → c.listed-seen-items.result.now ≡ each_to seen_of l (sectors_of l) = λ l e. lent_seen l (sectors_of l) c.args.scanned.now e _ c.listed-seen-items.ensures in
+    let lent : (l : List ℕ) → listed_seen c.args.scanned.now ≡ each_to seen_of l (sectors_of l) → c.listed-seen-items.result.now ≡ each_to seen_of l (sectors_of l) = λ l e. c.listed-seen-items.ensures.0 ∙ e in
     elim c.if-is_free.branch [
       | then-is_free w ↦
           let made = w.join_free.ensures in
@@ -63,10 +63,16 @@ loop-n-preserved c =
           }
     ]
 
-pub returns : goal.returns
+pub returns-clause-seen : goal.returns-clause-seen
 unfolding pages frees
-returns c = λ l e.
+returns-clause-seen c = λ l e.
     let i = c.loop-n.invariant.lists l e in
-    let same = ap length (lent_seen l (sectors_of l) c.args.scanned.now e _ c.listed-seen-items.ensures) in
+    let same = ap length (c.listed-seen-items.ensures.0 ∙ e) in
     let h : c.loop-n.n ≡ sectors_of l = omega (arith, same, length-each seen_of l (sectors_of l), c.loop-n-test.false, c.loop-n.auto.n-end) in
     record { list = i.list ∙ ap (pages_to l) h; free = i.free ∙ ap (frees_to l) h }
+
+-- a scan of the image lists what is seen of it
+pub returns-clause-whole : goal.returns-clause-whole
+returns-clause-whole c = λ l e.
+    let lent = c.listed-seen-items.ensures in
+    returns-clause-seen c l (sym lent.0 ∙ lent_seen l (sectors_of l) c.args.scanned.now e _ lent)
