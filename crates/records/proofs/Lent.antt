@@ -10,14 +10,14 @@ use Rattle.records.specs.Records.{each_to}
 use Rattle.records.specs.Scanned.{blank_seen, scanned_of, listed}
 use Rattle.records.proofs.Reading.{rows-read, rows-there}
 
-pub lent_seen : (l : List ℕ) (n : ℕ) (s : Scanned) → s ≡ scanned_of l n → (xs : List _) → (xs ≡ take s.count s.seen) × (length s.seen ≡ 16) → xs ≡ each_to seen_of l n
-lent_seen l n s e xs h =
-    let all = rows-there seen_of l blank_seen n in
-    let count : s.count ≡ n = omega (arith, ap (λ (x : Scanned). x.count) e, ap (λ (x : Scanned). length x.seen) e, h.1, all) in
-    h.0 ∙ ap (λ (k : ℕ). take k s.seen) count ∙ ap (λ (x : Scanned). take n x.seen) e ∙ rows-read seen_of l blank_seen n
-
 -- what is seen of at most sixteen sectors is listed
 pub scanned-listed : (l : List ℕ) (n : ℕ) → n ≤ 16 → listed (scanned_of l n) ≡ each_to seen_of l n
 scanned-listed l n few =
     let count : (scanned_of l n).count ≡ n = omega arith in
     ap (λ (k : ℕ). take k (scanned_of l n).seen) count ∙ rows-read seen_of l blank_seen n
+
+-- and lent: that the sectors are so few, the array's length tells
+pub lent_seen : (l : List ℕ) (n : ℕ) (s : Scanned) → s ≡ scanned_of l n → (xs : List _) → (xs ≡ take s.count s.seen) × (length s.seen ≡ 16) → xs ≡ each_to seen_of l n
+lent_seen l n s e xs h =
+    let few : n ≤ 16 = omega (arith, ap (λ (x : Scanned). length x.seen) e, h.1, rows-there seen_of l blank_seen n) in
+    h.0 ∙ ap listed e ∙ scanned-listed l n few

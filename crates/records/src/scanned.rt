@@ -1,5 +1,5 @@
 // What the scan sees of each sector, by value.
-ghost use Rattle.std.specs.Prelude.{◌≡◌, ◌≤◌, length, take};
+ghost use Rattle.std.specs.Prelude.{◌≡◌, ◌≤◌, length};
 
 use layout::MOST_SECTORS;
 use page::Seen;
@@ -13,9 +13,11 @@ pub struct Scanned {
 }
 
 impl Scanned {
+    ghost use Rattle.records.specs.Scanned.{listed};
+
     // What was seen of the sectors. (The clause tells the array's length too, which a caller can't read off a value that is only lent.)
     pub fn listed(&self) -> &[Seen]
-        ensures { (result.now ≡ take self.now.count self.now.seen) × (length self.now.seen ≡ 16) }
+        ensures { (result.now ≡ listed self.now) × (length self.now.seen ≡ 16) }
     {
         &self.seen[..self.count]
     }
